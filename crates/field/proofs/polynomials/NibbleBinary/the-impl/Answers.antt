@@ -1,0 +1,5 @@
+use Rattle.field.proofs.Fields.{nibble}
+use Rattle.field.proofs.polynomials.NibbleBinary.the-impl.Needs as need
+
+pub cyclic-law : need.cyclic-law
+cyclic-law = nibble
