@@ -1,0 +1,3 @@
+pub mod Dots
+pub mod Rows
+pub mod Powering

@@ -1,0 +1,5 @@
+pub mod Bounds
+pub mod Coefficients
+pub mod Rows
+pub mod Powers
+pub mod Refusals

@@ -1,0 +1,14 @@
+-- The number of each refusal to make a plan, and when there is one.
+use mathlib.Core.Bool.{Bool, _&&_}
+use Prim.Native.Nat.{ℕ}
+use lib.Dec.{leb}
+use Rattle.plan.specs.Bounds.{most-data, most-checks}
+use Rattle.plan.specs.declared.refusal.Refusal.{Refusal}
+use Rattle.plan.specs.declared.refusal.Refusal.the-variants.{BaysOutOfRange}
+
+abbrev pub number : Refusal → ℕ
+number BaysOutOfRange = 14
+
+-- 1 to 15 data bays and 1 to 8 check bays
+abbrev pub in-range : ℕ → ℕ → Bool
+in-range n m = leb 1 n && leb n most-data && leb 1 m && leb m most-checks
