@@ -1,6 +1,8 @@
 -- The number of each refusal to make a plan, and when there is one.
 use mathlib.Core.Bool.{Bool, _&&_}
+use mathlib.Core.List.{List}
 use Prim.Native.Nat.{ℕ}
+use lib.Chars.{codes}
 use lib.Dec.{leb}
 use Rattle.plan.specs.Bounds.{most-data, most-checks}
 use Rattle.plan.specs.declared.refusal.Refusal.{Refusal}
@@ -8,6 +10,10 @@ use Rattle.plan.specs.declared.refusal.Refusal.the-variants.{BaysOutOfRange}
 
 abbrev pub number : Refusal → ℕ
 number BaysOutOfRange = 14
+
+-- what is written of it
+abbrev pub wording : Refusal → List ℕ
+wording BaysOutOfRange = codes "a plan has 1 to 15 data bays and 1 to 8 check bays"
 
 -- 1 to 15 data bays and 1 to 8 check bays
 abbrev pub in-range : ℕ → ℕ → Bool

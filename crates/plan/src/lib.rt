@@ -10,3 +10,7 @@ pub use crate::layout::Plan;
 pub use crate::powers_plan::Powers;
 pub use crate::powers_plan::PowersPlan;
 pub use crate::refusal::Refusal;
+pub use crate::refusal::RefusalDebug;
+pub use crate::refusal::RefusalDisplay;
+pub use crate::refusal::RefusalEq;
+pub use crate::refusal::RefusalPartialEq;

@@ -1,0 +1,8 @@
+// Shelves. So far: why a call of a shelf is refused.
+mod refusal;
+
+pub use crate::refusal::Refusal;
+pub use crate::refusal::RefusalDebug;
+pub use crate::refusal::RefusalDisplay;
+pub use crate::refusal::RefusalEq;
+pub use crate::refusal::RefusalPartialEq;
