@@ -1,3 +1,4 @@
 pub mod Dots
 pub mod Rows
+pub mod CheckWords
 pub mod Powering

@@ -1,10 +1,11 @@
 -- The row of each bay, column by column, and how a moved check follows the words.
 use mathlib.Core.Path.{_≡_, refl, sym, ap, subst, _∙_}
 use mathlib.Core.Bool.{cond}
-use mathlib.Core.List.{List, map}
+use mathlib.Core.List.{List, [], _∷_, _++_, map}
 use mathlib.Core.Logic.{inl, inr}
 use Prim.Native.Nat.{ℕ, zero, suc, _<_, _≤_, _+_, _-_, _%_}
-use native.Mathlib.Nat.{mod-eq-of-lt}
+use native.Mathlib.Nat.{mod-eq-of-lt, add-zero, zero-add}
+use native.Mathlib.Numerals.{add-one}
 use native.Mathlib.Omega.{arith}
 use lib.ListN.{length, getD, set}
 use lib.Dec.{ltb, eqb}
@@ -15,6 +16,17 @@ use Rattle.field.proofs.Laws.{zero-below, one-below, code}
 use Rattle.plan.specs.Coefficients.{Coefficients, Fitting}
 use Rattle.plan.specs.Rows.{count-from, entry, row, dot, Vector, check-on, moved, Follows}
 use Rattle.plan.proofs.Dots.{Codes, vector-codes, dot-set}
+
+count-last : (i n : ℕ) → count-from i (suc n) ≡ count-from i n ++ (i + n) ∷ []
+unfolding count-from
+count-last i zero = ap (λ y. y ∷ []) (sym (add-zero i))
+count-last i (suc n) =
+    ap (λ ys. i ∷ ys) (count-last (suc i) n)
+    ∙ ap (λ y. i ∷ (count-from (suc i) n ++ y ∷ [])) (let e : suc i + n ≡ i + suc n = omega arith in e)
+
+-- one number more
+pub count-more : (n : ℕ) → count-from 0 (n + 1) ≡ count-from 0 n ++ n ∷ []
+count-more n = ap (count-from 0) (add-one n) ∙ count-last 0 n ∙ ap (λ y. count-from 0 n ++ y ∷ []) (zero-add n)
 
 getD-count-from : (f : ℕ → ℕ) (i n j : ℕ) → j < n → getD (map f (count-from i n)) j 0 ≡ f (i + j)
 unfolding count-from

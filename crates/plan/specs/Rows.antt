@@ -40,6 +40,11 @@ codes k ws = map (λ w. w % k .order) ws
 abbrev pub check-on : Arithmetic → Coefficients → ℕ → List ℕ → ℕ
 check-on k x i v = dot k (row x (x .n + i)) v
 
+-- the word of each check on a data vector
+unfoldable pub checks-on : Arithmetic → Coefficients → List ℕ → List ℕ
+unfolding row entry count-from dot
+checks-on k x v = map (λ i. check-on k x i v) (count-from 0 (x .m))
+
 -- Check i, moved from the old word of data bay j to the new one.
 abbrev pub moved : Arithmetic → Coefficients → ℕ → ℕ → ℕ → ℕ → ℕ → ℕ
 moved k x i j check old new = k .add check (k .mul (x .f i j) (k .sub new old))
@@ -49,3 +54,8 @@ moved k x i j check old new = k .add check (k .mul (x .f i j) (k .sub new old))
 abbrev pub Follows : Arithmetic → Coefficients → ℕ → ℕ → ℕ → ℕ → ℕ → ℕ → Type 0
 Follows k x i j check old new r =
     (v : List ℕ) → Vector k (x .n) v → j < x .n → getD v j 0 ≡ old → check-on k x i v ≡ check → check-on k x i (set v j new) ≡ r
+
+-- The checks from number i on, each moved.
+abbrev pub all-moved : Arithmetic → Coefficients → ℕ → ℕ → ℕ → ℕ → List ℕ → List ℕ
+all-moved k x i j old new [] = []
+all-moved k x i j old new (c ∷ cs) = moved k x i j c old new ∷ all-moved k x (suc i) j old new cs

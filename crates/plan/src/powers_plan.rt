@@ -21,6 +21,8 @@ pub struct Powers<F> {
     ghost few_checks: { «check_bays» ≤ most-checks },
 }
 
+impl<F> Copy for Powers<F> {}
+
 impl<F: Field> Powers<F> {
     // Refused by 14 where there are not 1 to 15 data bays and 1 to 8 check bays.
     pub fn new(data_bays: usize, check_bays: usize) -> Result<Powers<F>, Refusal>

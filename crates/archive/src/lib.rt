@@ -1,0 +1,6 @@
+// The archive that the program keeps, and the account that it gives.
+mod stripe;
+mod stripes;
+
+pub use crate::stripe::Stripe;
+pub use crate::stripes::Stripes;

@@ -1,0 +1,75 @@
+ghost use mathlib.Core.Path.{_≡_};
+ghost use Prim.Native.Nat.{_<_, _%_};
+ghost use Rattle.std.specs.Of.Vec.{vec-items, vec-len};
+ghost use Rattle.std.specs.Vec.{made};
+ghost use Rattle.plan.specs.Rows.{codes, checks-on, all-moved};
+ghost use Rattle.archive.specs.Stripes.{held, laid, rewritten};
+use field::Field;
+use plan::Plan;
+use plan::check_word;
+use plan::moved_word;
+use std::alloc::AllocError;
+use std::alloc::Global;
+
+// The words of one place: one for each data bay, and one for each check bay.
+#[derive(Drop)]
+pub struct Stripe {
+    pub words: Vec<u32>,
+    pub checks: Vec<u32>,
+}
+
+// The word of each check on the words of the data bays.
+pub fn check_words<P: Plan>(heap: Global, plan: &P, words: &[u32]) -> Result<Vec<u32>, AllocError>
+    ensures { λ r. ⌜ made r (λ v. vec-items v ≡ checks-on (F·Field .arithmetic) (P·Plan .coefficients (now (plan .entry))) (codes (F·Field .arithmetic) (now (words .entry)))) ⌝ }
+{
+    let mut checks = Vec::new(heap);
+    for i in 0..plan.check_bays() {
+        checks.push(check_word(plan, i, words))?;
+    }
+    Ok(checks)
+}
+
+// Each check, moved from the old word of a data bay to the new one.
+fn moved_words<P: Plan>(heap: Global, plan: &P, bay: usize, checks: &[u32], old: u32, new: u32) -> Result<Vec<u32>, AllocError>
+    ensures { λ r. ⌜ made r (λ v. vec-items v ≡ all-moved (F·Field .arithmetic) (P·Plan .coefficients (now (plan .entry))) 0 bay (old % F·Field .arithmetic .order) (new % F·Field .arithmetic .order) (codes (F·Field .arithmetic) (now (checks .entry)))) ⌝ }
+{
+    let mut moved = Vec::new(heap);
+    for (i, check) in checks.iter().enumerate() {
+        moved.push(moved_word(plan, i, bay, *check, old, new))?;
+    }
+    Ok(moved)
+}
+
+impl Stripe {
+    // The words of a lay, with their checks.
+    pub fn laid<P: Plan>(heap: Global, plan: &P, words: &[u32]) -> Result<Stripe, AllocError>
+        ensures { λ r. ⌜ made r (λ s. held s ≡ laid (F·Field .arithmetic) (P·Plan .coefficients (now (plan .entry))) (now (words .entry))) ⌝ }
+    {
+        Ok(Stripe {
+            words: Vec::from_slice(heap, words)?,
+            checks: check_words(heap, plan, words)?,
+        })
+    }
+
+    // The stripe with another word in a data bay: each check moves by its coefficient times the difference.
+    pub fn rewritten<P: Plan>(&self, heap: Global, plan: &P, bay: usize, word: u32) -> Result<Stripe, AllocError>
+        requires { ⌜ bay < vec-len (now self .words) ⌝ }
+        ensures { λ r. ⌜ made r (λ s. held s ≡ rewritten (F·Field .arithmetic) (P·Plan .coefficients (now (plan .entry))) bay word (held (now (self .entry)))) ⌝ }
+    {
+        let old = self.words[bay];
+        let checks = moved_words(heap, plan, bay, &self.checks, old, word)?;
+        let mut words = self.words.clone()?;
+        words[bay] = word;
+        Ok(Stripe { words, checks })
+    }
+
+    // The same stripe again.
+    pub fn copied(&self) -> Result<Stripe, AllocError>
+        ensures { λ r. ⌜ made r (λ s. held s ≡ held (now (self .entry))) ⌝ }
+    {
+        Ok(Stripe {
+            words: self.words.clone()?,
+            checks: self.checks.clone()?,
+        })
+    }
+}

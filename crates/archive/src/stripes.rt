@@ -1,0 +1,6 @@
+use crate::stripe::Stripe;
+
+pub struct Stripes<P> {
+    plan: P,
+    places: Vec<Option<Stripe>>,
+}
