@@ -14,12 +14,12 @@ use std::alloc::Global;
 // The words of one place: one for each data bay, and one for each check bay.
 #[derive(Drop)]
 pub struct Stripe {
-    pub words: Vec<u32>,
-    pub checks: Vec<u32>,
+    words: Vec<u32>,
+    checks: Vec<u32>,
 }
 
 // The word of each check on the words of the data bays.
-pub fn check_words<P: Plan>(heap: Global, plan: &P, words: &[u32]) -> Result<Vec<u32>, AllocError>
+fn check_words<P: Plan>(heap: Global, plan: &P, words: &[u32]) -> Result<Vec<u32>, AllocError>
     ensures { λ r. ⌜ made r (λ v. vec-items v ≡ checks-on (F·Field .arithmetic) (P·Plan .coefficients (now (plan .entry))) (codes (F·Field .arithmetic) (now (words .entry)))) ⌝ }
 {
     let mut checks = Vec::new(heap);
@@ -42,7 +42,7 @@ fn moved_words<P: Plan>(heap: Global, plan: &P, bay: usize, checks: &[u32], old:
 
 impl Stripe {
     // The words of a lay, with their checks.
-    pub fn laid<P: Plan>(heap: Global, plan: &P, words: &[u32]) -> Result<Stripe, AllocError>
+    fn laid<P: Plan>(heap: Global, plan: &P, words: &[u32]) -> Result<Stripe, AllocError>
         ensures { λ r. ⌜ made r (λ s. held s ≡ laid (F·Field .arithmetic) (P·Plan .coefficients (now (plan .entry))) (now (words .entry))) ⌝ }
     {
         Ok(Stripe {
@@ -52,24 +52,23 @@ impl Stripe {
     }
 
     // The stripe with another word in a data bay: each check moves by its coefficient times the difference.
-    pub fn rewritten<P: Plan>(&self, heap: Global, plan: &P, bay: usize, word: u32) -> Result<Stripe, AllocError>
+    fn rewritten<P: Plan>(&self, heap: Global, plan: &P, bay: usize, word: u32) -> Result<Stripe, AllocError>
         requires { ⌜ bay < vec-len (now self .words) ⌝ }
         ensures { λ r. ⌜ made r (λ s. held s ≡ rewritten (F·Field .arithmetic) (P·Plan .coefficients (now (plan .entry))) bay word (held (now (self .entry)))) ⌝ }
     {
-        let old = self.words[bay];
-        let checks = moved_words(heap, plan, bay, &self.checks, old, word)?;
-        let mut words = self.words.clone()?;
+        let checks = moved_words(heap, plan, bay, &self.checks, self.words[bay], word)?;
+        let mut words = Vec::from_slice(heap, &self.words)?;
         words[bay] = word;
         Ok(Stripe { words, checks })
     }
 
     // The same stripe again.
-    pub fn copied(&self) -> Result<Stripe, AllocError>
+    fn copied(&self, heap: Global) -> Result<Stripe, AllocError>
         ensures { λ r. ⌜ made r (λ s. held s ≡ held (now (self .entry))) ⌝ }
     {
         Ok(Stripe {
-            words: self.words.clone()?,
-            checks: self.checks.clone()?,
+            words: Vec::from_slice(heap, &self.words)?,
+            checks: Vec::from_slice(heap, &self.checks)?,
         })
     }
 }
