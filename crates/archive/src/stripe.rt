@@ -1,6 +1,7 @@
 ghost use mathlib.Core.Path.{_≡_};
-ghost use Prim.Native.Nat.{_<_, _%_};
-ghost use Rattle.std.specs.Of.Vec.{vec-items, vec-len};
+ghost use Prim.Native.Nat.{_%_};
+ghost use lib.ListN.{getD};
+ghost use Rattle.std.specs.Of.Vec.{vec-items};
 ghost use Rattle.std.specs.Vec.{made};
 ghost use Rattle.plan.specs.Rows.{codes, checks-on, all-moved};
 ghost use Rattle.archive.specs.Stripes.{held, laid, rewritten};
@@ -14,12 +15,21 @@ use std::alloc::Global;
 // The words of one place: one for each data bay, and one for each check bay.
 #[derive(Drop)]
 pub struct Stripe {
-    words: Vec<u32>,
-    checks: Vec<u32>,
+    pub words: Vec<u32>,
+    pub checks: Vec<u32>,
+}
+
+// What a rewrite shows: the old word of the bay, the checks before and after it, and the checks computed afresh.
+#[derive(Drop)]
+pub struct Rewrite {
+    pub old: u32,
+    pub before: Vec<u32>,
+    pub after: Vec<u32>,
+    pub afresh: Vec<u32>,
 }
 
 // The word of each check on the words of the data bays.
-fn check_words<P: Plan>(heap: Global, plan: &P, words: &[u32]) -> Result<Vec<u32>, AllocError>
+pub(crate) fn check_words<P: Plan>(heap: Global, plan: &P, words: &[u32]) -> Result<Vec<u32>, AllocError>
     ensures { λ r. ⌜ made r (λ v. vec-items v ≡ checks-on (F·Field .arithmetic) (P·Plan .coefficients (now (plan .entry))) (codes (F·Field .arithmetic) (now (words .entry)))) ⌝ }
 {
     let mut checks = Vec::new(heap);
@@ -42,7 +52,7 @@ fn moved_words<P: Plan>(heap: Global, plan: &P, bay: usize, checks: &[u32], old:
 
 impl Stripe {
     // The words of a lay, with their checks.
-    fn laid<P: Plan>(heap: Global, plan: &P, words: &[u32]) -> Result<Stripe, AllocError>
+    pub(crate) fn laid<P: Plan>(heap: Global, plan: &P, words: &[u32]) -> Result<Stripe, AllocError>
         ensures { λ r. ⌜ made r (λ s. held s ≡ laid (F·Field .arithmetic) (P·Plan .coefficients (now (plan .entry))) (now (words .entry))) ⌝ }
     {
         Ok(Stripe {
@@ -51,19 +61,31 @@ impl Stripe {
         })
     }
 
+    // The word of a data bay, and 0 past the last.
+    pub(crate) fn word(&self, bay: usize) -> u32
+        ensures { λ r. ⌜ r ≡ getD (held (now (self .entry)) .words) bay 0 ⌝ }
+    {
+        if bay < self.words.len() {
+            self.words[bay]
+        } else {
+            0
+        }
+    }
+
     // The stripe with another word in a data bay: each check moves by its coefficient times the difference.
-    fn rewritten<P: Plan>(&self, heap: Global, plan: &P, bay: usize, word: u32) -> Result<Stripe, AllocError>
-        requires { ⌜ bay < vec-len (now self .words) ⌝ }
+    pub(crate) fn rewritten<P: Plan>(&self, heap: Global, plan: &P, bay: usize, word: u32) -> Result<Stripe, AllocError>
         ensures { λ r. ⌜ made r (λ s. held s ≡ rewritten (F·Field .arithmetic) (P·Plan .coefficients (now (plan .entry))) bay word (held (now (self .entry)))) ⌝ }
     {
-        let checks = moved_words(heap, plan, bay, &self.checks, self.words[bay], word)?;
+        let checks = moved_words(heap, plan, bay, &self.checks, self.word(bay), word)?;
         let mut words = Vec::from_slice(heap, &self.words)?;
-        words[bay] = word;
+        if bay < words.len() {
+            words[bay] = word;
+        }
         Ok(Stripe { words, checks })
     }
 
     // The same stripe again.
-    fn copied(&self, heap: Global) -> Result<Stripe, AllocError>
+    pub(crate) fn copied(&self, heap: Global) -> Result<Stripe, AllocError>
         ensures { λ r. ⌜ made r (λ s. held s ≡ held (now (self .entry))) ⌝ }
     {
         Ok(Stripe {

@@ -1,6 +1,47 @@
+ghost use mathlib.Core.Bool.{false};
+ghost use mathlib.Core.List.{List};
+ghost use mathlib.Core.Path.{_≡_};
+ghost use lib.ListN.{replicate};
+ghost use Rattle.std.specs.Of.Vec.{vec-items};
+ghost use Rattle.std.specs.Vec.{made};
+ghost use Rattle.std.specs.declared.option.Option.the-variants.{None};
+ghost use Rattle.archive.specs.Stripes.{held, held-at, shown, laying, writing, Carried, Sound};
+use crate::fault::Fault;
+use crate::fault::FaultFromAlloc;
+use crate::stripe::Rewrite;
 use crate::stripe::Stripe;
+use crate::stripe::check_words;
+use field::Field;
+use plan::Plan;
+use shelf::Refusal;
+use shelf::any_beyond;
+use std::alloc::AllocError;
+use std::alloc::Global;
 
+// The stripes of an archive, by place: none where nothing was laid.
 pub struct Stripes<P> {
     plan: P,
     places: Vec<Option<Stripe>>,
+}
+
+impl<P: Plan> Stripes<P> {
+    // Lays the words, one for each data bay, at a place, and answers the stripe that is there now.
+    pub fn lay(&mut self, heap: Global, place: usize, words: &[u32]) -> Result<Stripe, Fault>
+        ensures plan { λ _. ⌜ now (self .exit) .plan ≡ now (self .entry) .plan ⌝ }
+        ensures carried { λ r. ⌜ Carried held (held-at (vec-items (now (self .entry) .places))) (held-at (vec-items (now (self .exit) .places))) (laying (F·Field .arithmetic) (P·Plan .coefficients (now (self .entry) .plan)) (held-at (vec-items (now (self .entry) .places))) place (now (words .entry))) r ⌝ }
+    {
+        if place >= self.places.len() {
+            return Err(Fault::Refused(Refusal::NoSuchPlace));
+        }
+        if words.len() != self.plan.data_bays() {
+            return Err(Fault::Refused(Refusal::WrongCount));
+        }
+        if any_beyond(words, P::F::size()) {
+            return Err(Fault::Refused(Refusal::WordOutOfRange));
+        }
+        let stripe = Stripe::laid(heap, &self.plan, words)?;
+        let answer = stripe.copied(heap)?;
+        self.places[place] = Some(stripe);
+        Ok(answer)
+    }
 }

@@ -1,6 +1,8 @@
 // Shelves. So far: why a call of a shelf is refused.
+mod limits;
 mod refusal;
 
+pub use crate::limits::any_beyond;
 pub use crate::refusal::Refusal;
 pub use crate::refusal::RefusalDebug;
 pub use crate::refusal::RefusalDisplay;

@@ -1,0 +1,20 @@
+ghost use mathlib.Core.Path.{_≡_};
+ghost use Rattle.archive.specs.declared.fault.Fault.the-variants.{Memory};
+use shelf::Refusal;
+use std::alloc::AllocError;
+
+// Why a call was not carried out. Then nothing was changed.
+#[derive(Clone, Copy)]
+pub enum Fault {
+    Refused(Refusal),
+    // There was no memory for the new words.
+    Memory,
+}
+
+pub impl From<AllocError> for Fault as FaultFromAlloc {
+    ghost converts = { λ _ r. r ≡ Memory };
+
+    fn from(_e: AllocError) -> Fault {
+        Fault::Memory
+    }
+}
