@@ -16,7 +16,7 @@ use Rattle.shelf.specs.Refusals.{word-refusal, lay-refusal}
 use Rattle.shelf.specs.declared.refusal.Refusal.{Refusal}
 use Rattle.shelf.specs.declared.refusal.Refusal.the-variants.{Lost}
 use Rattle.archive.specs.declared.fault.Fault.{Fault}
-use Rattle.archive.specs.declared.fault.Fault.the-variants.{Refused, Memory}
+use Rattle.archive.specs.declared.fault.Fault.the-variants.{NoArchive, Plan, PlacesOutOfRange, Refused, Memory}
 use Rattle.archive.specs.declared.stripe.Stripe.{Stripe}
 use Rattle.archive.specs.declared.stripe.Rewrite.{Rewrite}
 
@@ -62,12 +62,13 @@ pub record Shown : Type 0 where
 abbrev pub shown : Rewrite → Shown
 shown w = record { old = w .old; before = vec-items (w .before); after = vec-items (w .after); afresh = vec-items (w .afresh) }
 
-abbrev pub showing : Arithmetic → Coefficients → ℕ → ℕ → Held → Shown
-showing k x bay word h = record {
+-- what is shown of the stripes before and after a rewrite
+abbrev pub comparing : Arithmetic → Coefficients → ℕ → Held → Held → Shown
+comparing k x bay h next = record {
   old = getD (h .words) bay 0;
   before = h .checks;
-  after = rewritten k x bay word h .checks;
-  afresh = checks-on k x (codes k (set (h .words) bay word));
+  after = next .checks;
+  afresh = checks-on k x (codes k (next .words));
 }
 
 -- what a call leaves at each place, and what it answers
@@ -89,7 +90,7 @@ laying k x hs place words = laying-if k x hs place words (lay-refusal (x .n) (le
 -- a write, once it is known what is held at its place
 abbrev pub writing-over : Arithmetic → Coefficients → List (Option Held) → ℕ → ℕ → ℕ → Option Held → Outcome Shown
 writing-over k x hs bay place word None = refused hs Lost
-writing-over k x hs bay place word (Some h) = record { after = set hs place (Some (rewritten k x bay word h)); answer = Ok (showing k x bay word h) }
+writing-over k x hs bay place word (Some h) = record { after = set hs place (Some (rewritten k x bay word h)); answer = Ok (comparing k x bay h (rewritten k x bay word h)) }
 
 abbrev pub writing-if : Arithmetic → Coefficients → List (Option Held) → ℕ → ℕ → ℕ → Option Refusal → Outcome Shown
 writing-if k x hs bay place word (Some e) = refused hs e
@@ -104,3 +105,6 @@ abbrev pub Carried : {A B : Type 0} → (B → A) → List (Option Held) → Lis
 Carried f before after due (Ok b) = (after ≡ due .after) × (due .answer ≡ Ok (f b))
 Carried f before after due (Err (Refused e)) = (after ≡ due .after) × (due .answer ≡ Err e)
 Carried f before after due (Err Memory) = after ≡ before
+Carried f before after due (Err NoArchive) = ⊥
+Carried f before after due (Err (Plan e)) = ⊥
+Carried f before after due (Err PlacesOutOfRange) = ⊥

@@ -6,6 +6,13 @@ use std::alloc::AllocError;
 // Why a call was not carried out. Then nothing was changed.
 #[derive(Clone, Copy)]
 pub enum Fault {
+    // No archive is described yet.
+    NoArchive,
+    // The archive's plan is refused.
+    Plan(plan::Refusal),
+    // The archive has not 1 to 65,536 places.
+    PlacesOutOfRange,
+    // The call is refused.
     Refused(Refusal),
     // There was no memory for the new words.
     Memory,

@@ -4,7 +4,7 @@ ghost use lib.ListN.{getD};
 ghost use Rattle.std.specs.Of.Vec.{vec-items};
 ghost use Rattle.std.specs.Vec.{made};
 ghost use Rattle.plan.specs.Rows.{codes, checks-on, all-moved};
-ghost use Rattle.archive.specs.Stripes.{held, laid, rewritten};
+ghost use Rattle.archive.specs.Stripes.{held, laid, rewritten, shown, comparing};
 use field::Field;
 use plan::Plan;
 use plan::check_word;
@@ -82,6 +82,18 @@ impl Stripe {
             words[bay] = word;
         }
         Ok(Stripe { words, checks })
+    }
+
+    // What a rewrite in a data bay shows, from the stripe before it and the one after.
+    pub(crate) fn shown<P: Plan>(&self, heap: Global, plan: &P, bay: usize, next: &Stripe) -> Result<Rewrite, AllocError>
+        ensures { λ r. ⌜ made r (λ w. shown w ≡ comparing (F·Field .arithmetic) (P·Plan .coefficients (now (plan .entry))) bay (held (now (self .entry))) (held (now (next .entry)))) ⌝ }
+    {
+        Ok(Rewrite {
+            old: self.word(bay),
+            before: Vec::from_slice(heap, &self.checks)?,
+            after: Vec::from_slice(heap, &next.checks)?,
+            afresh: check_words(heap, plan, &next.words)?,
+        })
     }
 
     // The same stripe again.

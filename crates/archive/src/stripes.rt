@@ -14,7 +14,8 @@ use crate::stripe::check_words;
 use field::Field;
 use plan::Plan;
 use shelf::Refusal;
-use shelf::any_beyond;
+use shelf::lay_refusal;
+use shelf::word_refusal;
 use std::alloc::AllocError;
 use std::alloc::Global;
 
@@ -30,18 +31,29 @@ impl<P: Plan> Stripes<P> {
         ensures plan { λ _. ⌜ now (self .exit) .plan ≡ now (self .entry) .plan ⌝ }
         ensures carried { λ r. ⌜ Carried held (held-at (vec-items (now (self .entry) .places))) (held-at (vec-items (now (self .exit) .places))) (laying (F·Field .arithmetic) (P·Plan .coefficients (now (self .entry) .plan)) (held-at (vec-items (now (self .entry) .places))) place (now (words .entry))) r ⌝ }
     {
-        if place >= self.places.len() {
-            return Err(Fault::Refused(Refusal::NoSuchPlace));
-        }
-        if words.len() != self.plan.data_bays() {
-            return Err(Fault::Refused(Refusal::WrongCount));
-        }
-        if any_beyond(words, P::F::size()) {
-            return Err(Fault::Refused(Refusal::WordOutOfRange));
+        if let Some(refusal) = lay_refusal(self.plan.data_bays(), self.places.len(), P::F::size(), place, words) {
+            return Err(Fault::Refused(refusal));
         }
         let stripe = Stripe::laid(heap, &self.plan, words)?;
         let answer = stripe.copied(heap)?;
         self.places[place] = Some(stripe);
         Ok(answer)
+    }
+
+    // Writes a word in a data bay at a place, and answers what the rewrite shows.
+    pub fn write(&mut self, heap: Global, bay: usize, place: usize, word: u32) -> Result<Rewrite, Fault>
+        ensures plan { λ _. ⌜ now (self .exit) .plan ≡ now (self .entry) .plan ⌝ }
+        ensures carried { λ r. ⌜ Carried shown (held-at (vec-items (now (self .entry) .places))) (held-at (vec-items (now (self .exit) .places))) (writing (F·Field .arithmetic) (P·Plan .coefficients (now (self .entry) .plan)) (held-at (vec-items (now (self .entry) .places))) bay place word) r ⌝ }
+    {
+        if let Some(refusal) = word_refusal(self.plan.data_bays(), self.places.len(), P::F::size(), bay, place, word) {
+            return Err(Fault::Refused(refusal));
+        }
+        let Some(stripe) = &self.places[place] else {
+            return Err(Fault::Refused(Refusal::Lost));
+        };
+        let next = stripe.rewritten(heap, &self.plan, bay, word)?;
+        let rewrite = stripe.shown(heap, &self.plan, bay, &next)?;
+        self.places[place] = Some(next);
+        Ok(rewrite)
     }
 }

@@ -2,7 +2,8 @@
 mod limits;
 mod refusal;
 
-pub use crate::limits::any_beyond;
+pub use crate::limits::lay_refusal;
+pub use crate::limits::word_refusal;
 pub use crate::refusal::Refusal;
 pub use crate::refusal::RefusalDebug;
 pub use crate::refusal::RefusalDisplay;

@@ -1,0 +1,76 @@
+-- What a lay and a write leave and answer, from what the code found out.
+use mathlib.Core.Path.{_≡_, refl, sym, ap, subst, _∙_}
+use mathlib.Core.List.{List, map}
+use Prim.Native.Nat.{ℕ, _<_}
+use lib.ListN.{length, getD, set}
+use Rattle.std.specs.Of.Vec.{vec-items, vec-len}
+use Rattle.std.specs.OverHeap.{Vec}
+use Rattle.std.specs.Options.{mapped}
+use Rattle.std.specs.declared.option.Option.{Option}
+use Rattle.std.specs.declared.option.Option.the-variants.{Some, None}
+use Rattle.std.specs.declared.result.Result.the-variants.{Ok, Err}
+use Rattle.std.proofs.shelf.Lists.{length-map, getD-map, map-set}
+use Rattle.field.specs.Arithmetic.{Arithmetic}
+use Rattle.plan.specs.Coefficients.{Coefficients}
+use Rattle.shelf.specs.Refusals.{word-refusal, lay-refusal}
+use Rattle.shelf.specs.declared.refusal.Refusal.{Refusal}
+use Rattle.shelf.specs.declared.refusal.Refusal.the-variants.{Lost}
+use Rattle.archive.specs.declared.stripe.Stripe.{Stripe}
+use Rattle.archive.specs.Stripes.{Held, Shown, held, held-at, laid, rewritten, comparing, Outcome, laying-if, laying, writing-over, writing-if, writing}
+
+-- there are as many places to hold something as there are places
+pub held-length : (v : Vec (Option Stripe)) → vec-len v ≡ length (held-at (vec-items v))
+held-length v = v .ok .0 ∙ sym (length-map (vec-items v) (mapped held))
+
+-- what the element at a place holds is what is held there
+pub held-here : (places : List (Option Stripe)) (p : ℕ) (r o : Option Stripe) → p < length places → r ≡ getD places p r → r ≡ o → getD (held-at places) p None ≡ mapped held o
+held-here places p r o d e is = getD-map (mapped held) places p r None d ∙ ap (mapped held) (sym e ∙ is)
+
+-- setting a place sets what is held there
+pub held-set : (places : List (Option Stripe)) (p : ℕ) (s : Stripe) (h : Held) → held s ≡ h → held-at (set places p (Some s)) ≡ set (held-at places) p (Some h)
+held-set places p s h e = map-set (mapped held) places p (Some s) ∙ ap (λ y. set (held-at places) p (Some y)) e
+
+module _ (k : Arithmetic) (x : Coefficients) (hs : List (Option Held)) (bays places limit : ℕ) (eb : bays ≡ x .n) (ep : places ≡ length hs) (el : limit ≡ k .order) where
+  -- the test of a lay, at the numbers of the stripes
+  lay-test : (place : ℕ) (words : List ℕ) → lay-refusal bays places limit place words ≡ lay-refusal (x .n) (length hs) (k .order) place words
+  lay-test place words =
+      ap (λ b. lay-refusal b places limit place words) eb
+      ∙ ap (λ p. lay-refusal (x .n) p limit place words) ep
+      ∙ ap (λ l. lay-refusal (x .n) (length hs) l place words) el
+
+  word-test : (bay place word : ℕ) → word-refusal bays places limit bay place word ≡ word-refusal (x .n) (length hs) (k .order) bay place word
+  word-test bay place word =
+      ap (λ b. word-refusal b places limit bay place word) eb
+      ∙ ap (λ p. word-refusal (x .n) p limit bay place word) ep
+      ∙ ap (λ l. word-refusal (x .n) (length hs) l bay place word) el
+
+  -- a lay that is refused leaves all as it was
+  pub lay-refused : (place : ℕ) (words : List ℕ) (e : Refusal) → lay-refusal bays places limit place words ≡ Some e → (hs ≡ laying k x hs place words .after) × (laying k x hs place words .answer ≡ Err e)
+  lay-refused place words e is =
+      let P : Option Refusal → Type 0 = λ o. (hs ≡ laying-if k x hs place words o .after) × (laying-if k x hs place words o .answer ≡ Err e) in
+      subst P (sym (sym (lay-test place words) ∙ is)) (refl, refl)
+
+  -- and one that is not sets its place
+  pub lay-done : (place : ℕ) (words : List ℕ) (after : List (Option Held)) (answer : Held) → lay-refusal bays places limit place words ≡ None → after ≡ set hs place (Some (laid k x words)) → answer ≡ laid k x words → (after ≡ laying k x hs place words .after) × (laying k x hs place words .answer ≡ Ok answer)
+  lay-done place words after answer is ea er =
+      let P : Option Refusal → Type 0 = λ o. (after ≡ laying-if k x hs place words o .after) × (laying-if k x hs place words o .answer ≡ Ok answer) in
+      subst P (sym (sym (lay-test place words) ∙ is)) (ea, ap Ok (sym er))
+
+  pub write-refused : (bay place word : ℕ) (e : Refusal) → word-refusal bays places limit bay place word ≡ Some e → (hs ≡ writing k x hs bay place word .after) × (writing k x hs bay place word .answer ≡ Err e)
+  write-refused bay place word e is =
+      let P : Option Refusal → Type 0 = λ o. (hs ≡ writing-if k x hs bay place word o .after) × (writing-if k x hs bay place word o .answer ≡ Err e) in
+      subst P (sym (sym (word-test bay place word) ∙ is)) (refl, refl)
+
+  -- a write where nothing is held is lost
+  pub write-lost : (bay place word : ℕ) → word-refusal bays places limit bay place word ≡ None → getD hs place None ≡ None → (hs ≡ writing k x hs bay place word .after) × (writing k x hs bay place word .answer ≡ Err Lost)
+  write-lost bay place word is none =
+      let P : Option Refusal → Type 0 = λ o. (hs ≡ writing-if k x hs bay place word o .after) × (writing-if k x hs bay place word o .answer ≡ Err Lost) in
+      let Q : Option Held → Type 0 = λ o. (hs ≡ writing-over k x hs bay place word o .after) × (writing-over k x hs bay place word o .answer ≡ Err Lost) in
+      subst P (sym (sym (word-test bay place word) ∙ is)) (subst Q (sym none) (refl, refl))
+
+  -- and elsewhere it rewrites what is held
+  pub write-done : (bay place word : ℕ) (h : Held) (after : List (Option Held)) (answer : Shown) → word-refusal bays places limit bay place word ≡ None → getD hs place None ≡ Some h → after ≡ set hs place (Some (rewritten k x bay word h)) → answer ≡ comparing k x bay h (rewritten k x bay word h) → (after ≡ writing k x hs bay place word .after) × (writing k x hs bay place word .answer ≡ Ok answer)
+  write-done bay place word h after answer is some ea er =
+      let P : Option Refusal → Type 0 = λ o. (after ≡ writing-if k x hs bay place word o .after) × (writing-if k x hs bay place word o .answer ≡ Ok answer) in
+      let Q : Option Held → Type 0 = λ o. (after ≡ writing-over k x hs bay place word o .after) × (writing-over k x hs bay place word o .answer ≡ Ok answer) in
+      subst P (sym (sym (word-test bay place word) ∙ is)) (subst Q (sym some) (ea, ap Ok (sym er)))
