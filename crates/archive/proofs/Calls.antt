@@ -1,8 +1,10 @@
 -- What a lay and a write leave and answer, from what the code found out.
 use mathlib.Core.Path.{_≡_, refl, sym, ap, subst, _∙_}
-use mathlib.Core.List.{List, map}
-use Prim.Native.Nat.{ℕ, _<_}
-use lib.ListN.{length, getD, set}
+use mathlib.Core.List.{List, [], _∷_, _++_, map}
+use mathlib.Core.Logic.{inl}
+use Prim.Native.Nat.{ℕ, zero, suc, _+_, _<_}
+use native.Mathlib.Numerals.{add-one}
+use lib.ListN.{length, getD, set, replicate}
 use Rattle.std.specs.Of.Vec.{vec-items, vec-len}
 use Rattle.std.specs.OverHeap.{Vec}
 use Rattle.std.specs.Options.{mapped}
@@ -15,8 +17,19 @@ use Rattle.plan.specs.Coefficients.{Coefficients}
 use Rattle.shelf.specs.Refusals.{word-refusal, lay-refusal}
 use Rattle.shelf.specs.declared.refusal.Refusal.{Refusal}
 use Rattle.shelf.specs.declared.refusal.Refusal.the-variants.{Lost}
+use Rattle.archive.specs.declared.fault.Fault.the-variants.{Refused}
 use Rattle.archive.specs.declared.stripe.Stripe.{Stripe}
-use Rattle.archive.specs.Stripes.{Held, Shown, held, held-at, laid, rewritten, comparing, Outcome, laying-if, laying, writing-over, writing-if, writing}
+use Rattle.archive.specs.declared.stripe.Rewrite.{Rewrite}
+use Rattle.archive.specs.Outcome.{Carried}
+use Rattle.archive.specs.Stripes.{Held, held, held-at, shown, laid, rewritten, comparing, laying-if, laying, writing-over, writing-if, writing}
+
+-- one more of the same, at the end
+pub replicate-more : {X : Type 0} (n : ℕ) (x : X) → replicate (n + 1) x ≡ replicate n x ++ x ∷ []
+replicate-more n x = ap (λ i. replicate i x) (add-one n) ∙ last n x
+  where
+    last : {X : Type 0} (n : ℕ) (x : X) → replicate (suc n) x ≡ replicate n x ++ x ∷ []
+    last zero x = refl
+    last (suc n) x = ap (λ xs. x ∷ xs) (last n x)
 
 -- there are as many places to hold something as there are places
 pub held-length : (v : Vec (Option Stripe)) → vec-len v ≡ length (held-at (vec-items v))
@@ -45,32 +58,32 @@ module _ (k : Arithmetic) (x : Coefficients) (hs : List (Option Held)) (bays pla
       ∙ ap (λ l. word-refusal (x .n) (length hs) l bay place word) el
 
   -- a lay that is refused leaves all as it was
-  pub lay-refused : (place : ℕ) (words : List ℕ) (e : Refusal) → lay-refusal bays places limit place words ≡ Some e → (hs ≡ laying k x hs place words .after) × (laying k x hs place words .answer ≡ Err e)
+  pub lay-refused : (place : ℕ) (words : List ℕ) (e : Refusal) → lay-refusal bays places limit place words ≡ Some e → Carried held hs hs (laying k x hs place words) (Err (Refused e))
   lay-refused place words e is =
-      let P : Option Refusal → Type 0 = λ o. (hs ≡ laying-if k x hs place words o .after) × (laying-if k x hs place words o .answer ≡ Err e) in
-      subst P (sym (sym (lay-test place words) ∙ is)) (refl, refl)
+      let P : Option Refusal → Type 0 = λ o. Carried held hs hs (laying-if k x hs place words o) (Err (Refused e)) in
+      subst P (sym (sym (lay-test place words) ∙ is)) (inl (refl, refl))
 
   -- and one that is not sets its place
-  pub lay-done : (place : ℕ) (words : List ℕ) (after : List (Option Held)) (answer : Held) → lay-refusal bays places limit place words ≡ None → after ≡ set hs place (Some (laid k x words)) → answer ≡ laid k x words → (after ≡ laying k x hs place words .after) × (laying k x hs place words .answer ≡ Ok answer)
+  pub lay-done : (place : ℕ) (words : List ℕ) (after : List (Option Held)) (answer : Stripe) → lay-refusal bays places limit place words ≡ None → after ≡ set hs place (Some (laid k x words)) → held answer ≡ laid k x words → Carried held hs after (laying k x hs place words) (Ok answer)
   lay-done place words after answer is ea er =
-      let P : Option Refusal → Type 0 = λ o. (after ≡ laying-if k x hs place words o .after) × (laying-if k x hs place words o .answer ≡ Ok answer) in
+      let P : Option Refusal → Type 0 = λ o. Carried held hs after (laying-if k x hs place words o) (Ok answer) in
       subst P (sym (sym (lay-test place words) ∙ is)) (ea, ap Ok (sym er))
 
-  pub write-refused : (bay place word : ℕ) (e : Refusal) → word-refusal bays places limit bay place word ≡ Some e → (hs ≡ writing k x hs bay place word .after) × (writing k x hs bay place word .answer ≡ Err e)
+  pub write-refused : (bay place word : ℕ) (e : Refusal) → word-refusal bays places limit bay place word ≡ Some e → Carried shown hs hs (writing k x hs bay place word) (Err (Refused e))
   write-refused bay place word e is =
-      let P : Option Refusal → Type 0 = λ o. (hs ≡ writing-if k x hs bay place word o .after) × (writing-if k x hs bay place word o .answer ≡ Err e) in
-      subst P (sym (sym (word-test bay place word) ∙ is)) (refl, refl)
+      let P : Option Refusal → Type 0 = λ o. Carried shown hs hs (writing-if k x hs bay place word o) (Err (Refused e)) in
+      subst P (sym (sym (word-test bay place word) ∙ is)) (inl (refl, refl))
 
   -- a write where nothing is held is lost
-  pub write-lost : (bay place word : ℕ) → word-refusal bays places limit bay place word ≡ None → getD hs place None ≡ None → (hs ≡ writing k x hs bay place word .after) × (writing k x hs bay place word .answer ≡ Err Lost)
+  pub write-lost : (bay place word : ℕ) → word-refusal bays places limit bay place word ≡ None → getD hs place None ≡ None → Carried shown hs hs (writing k x hs bay place word) (Err (Refused Lost))
   write-lost bay place word is none =
-      let P : Option Refusal → Type 0 = λ o. (hs ≡ writing-if k x hs bay place word o .after) × (writing-if k x hs bay place word o .answer ≡ Err Lost) in
-      let Q : Option Held → Type 0 = λ o. (hs ≡ writing-over k x hs bay place word o .after) × (writing-over k x hs bay place word o .answer ≡ Err Lost) in
-      subst P (sym (sym (word-test bay place word) ∙ is)) (subst Q (sym none) (refl, refl))
+      let P : Option Refusal → Type 0 = λ o. Carried shown hs hs (writing-if k x hs bay place word o) (Err (Refused Lost)) in
+      let Q : Option Held → Type 0 = λ o. Carried shown hs hs (writing-over k x hs bay place word o) (Err (Refused Lost)) in
+      subst P (sym (sym (word-test bay place word) ∙ is)) (subst Q (sym none) (inl (refl, refl)))
 
   -- and elsewhere it rewrites what is held
-  pub write-done : (bay place word : ℕ) (h : Held) (after : List (Option Held)) (answer : Shown) → word-refusal bays places limit bay place word ≡ None → getD hs place None ≡ Some h → after ≡ set hs place (Some (rewritten k x bay word h)) → answer ≡ comparing k x bay h (rewritten k x bay word h) → (after ≡ writing k x hs bay place word .after) × (writing k x hs bay place word .answer ≡ Ok answer)
+  pub write-done : (bay place word : ℕ) (h : Held) (after : List (Option Held)) (answer : Rewrite) → word-refusal bays places limit bay place word ≡ None → getD hs place None ≡ Some h → after ≡ set hs place (Some (rewritten k x bay word h)) → shown answer ≡ comparing k x bay h (rewritten k x bay word h) → Carried shown hs after (writing k x hs bay place word) (Ok answer)
   write-done bay place word h after answer is some ea er =
-      let P : Option Refusal → Type 0 = λ o. (after ≡ writing-if k x hs bay place word o .after) × (writing-if k x hs bay place word o .answer ≡ Ok answer) in
-      let Q : Option Held → Type 0 = λ o. (after ≡ writing-over k x hs bay place word o .after) × (writing-over k x hs bay place word o .answer ≡ Ok answer) in
+      let P : Option Refusal → Type 0 = λ o. Carried shown hs after (writing-if k x hs bay place word o) (Ok answer) in
+      let Q : Option Held → Type 0 = λ o. Carried shown hs after (writing-over k x hs bay place word o) (Ok answer) in
       subst P (sym (sym (word-test bay place word) ∙ is)) (subst Q (sym some) (ea, ap Ok (sym er)))

@@ -1,1 +1,4 @@
+pub mod Outcome
 pub mod Stripes
+pub mod Contents
+pub mod Entries

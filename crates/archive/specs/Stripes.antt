@@ -7,16 +7,15 @@ use Rattle.std.specs.Of.Vec.{vec-items}
 use Rattle.std.specs.Options.{mapped}
 use Rattle.std.specs.declared.option.Option.{Option}
 use Rattle.std.specs.declared.option.Option.the-variants.{Some, None}
-use Rattle.std.specs.declared.result.Result.{Result}
-use Rattle.std.specs.declared.result.Result.the-variants.{Ok, Err}
+use Rattle.std.specs.declared.result.Result.the-variants.{Ok}
 use Rattle.field.specs.Arithmetic.{Arithmetic}
 use Rattle.plan.specs.Coefficients.{Coefficients}
 use Rattle.plan.specs.Rows.{Vector, codes, checks-on, all-moved}
 use Rattle.shelf.specs.Refusals.{word-refusal, lay-refusal}
 use Rattle.shelf.specs.declared.refusal.Refusal.{Refusal}
 use Rattle.shelf.specs.declared.refusal.Refusal.the-variants.{Lost}
-use Rattle.archive.specs.declared.fault.Fault.{Fault}
-use Rattle.archive.specs.declared.fault.Fault.the-variants.{NoArchive, Plan, PlacesOutOfRange, Refused, Memory}
+use Rattle.archive.specs.Outcome.{Outcome, refused}
+use Rattle.archive.specs.declared.fault.Fault.the-variants.{Refused}
 use Rattle.archive.specs.declared.stripe.Stripe.{Stripe}
 use Rattle.archive.specs.declared.stripe.Rewrite.{Rewrite}
 
@@ -71,40 +70,26 @@ comparing k x bay h next = record {
   afresh = checks-on k x (codes k (next .words));
 }
 
--- what a call leaves at each place, and what it answers
-pub record Outcome (A : Type 0) : Type 0 where
-  pub after : List (Option Held)
-  pub answer : Result A Refusal
-
-abbrev pub refused : {A : Type 0} → List (Option Held) → Refusal → Outcome A
-refused hs e = record { after = hs; answer = Err e }
-
 -- a lay, once it is known whether it is refused
-abbrev pub laying-if : Arithmetic → Coefficients → List (Option Held) → ℕ → List ℕ → Option Refusal → Outcome Held
-laying-if k x hs place words (Some e) = refused hs e
+abbrev pub laying-if : Arithmetic → Coefficients → List (Option Held) → ℕ → List ℕ → Option Refusal → Outcome (List (Option Held)) Held
+laying-if k x hs place words (Some e) = refused hs (Refused e)
 laying-if k x hs place words None = record { after = set hs place (Some (laid k x words)); answer = Ok (laid k x words) }
 
-abbrev pub laying : Arithmetic → Coefficients → List (Option Held) → ℕ → List ℕ → Outcome Held
+-- A lay sets the words at its place, with the checks that they give.
+abbrev pub laying : Arithmetic → Coefficients → List (Option Held) → ℕ → List ℕ → Outcome (List (Option Held)) Held
 laying k x hs place words = laying-if k x hs place words (lay-refusal (x .n) (length hs) (k .order) place words)
 
 -- a write, once it is known what is held at its place
-abbrev pub writing-over : Arithmetic → Coefficients → List (Option Held) → ℕ → ℕ → ℕ → Option Held → Outcome Shown
-writing-over k x hs bay place word None = refused hs Lost
+abbrev pub writing-over : Arithmetic → Coefficients → List (Option Held) → ℕ → ℕ → ℕ → Option Held → Outcome (List (Option Held)) Shown
+writing-over k x hs bay place word None = refused hs (Refused Lost)
 writing-over k x hs bay place word (Some h) = record { after = set hs place (Some (rewritten k x bay word h)); answer = Ok (comparing k x bay h (rewritten k x bay word h)) }
 
-abbrev pub writing-if : Arithmetic → Coefficients → List (Option Held) → ℕ → ℕ → ℕ → Option Refusal → Outcome Shown
-writing-if k x hs bay place word (Some e) = refused hs e
+-- and once it is known whether it is refused
+abbrev pub writing-if : Arithmetic → Coefficients → List (Option Held) → ℕ → ℕ → ℕ → Option Refusal → Outcome (List (Option Held)) Shown
+writing-if k x hs bay place word (Some e) = refused hs (Refused e)
 writing-if k x hs bay place word None = writing-over k x hs bay place word (getD hs place None)
 
-abbrev pub writing : Arithmetic → Coefficients → List (Option Held) → ℕ → ℕ → ℕ → Outcome Shown
+-- A write changes one word of what is held at its place, and moves each check; it is lost where nothing is held.
+abbrev pub writing : Arithmetic → Coefficients → List (Option Held) → ℕ → ℕ → ℕ → Outcome (List (Option Held)) Shown
 writing k x hs bay place word =
     writing-if k x hs bay place word (word-refusal (x .n) (length hs) (k .order) bay place word)
-
--- The call leaves and answers what is due; only want of memory may come instead, and then nothing changes.
-abbrev pub Carried : {A B : Type 0} → (B → A) → List (Option Held) → List (Option Held) → Outcome A → Result B Fault → Type 0
-Carried f before after due (Ok b) = (after ≡ due .after) × (due .answer ≡ Ok (f b))
-Carried f before after due (Err (Refused e)) = (after ≡ due .after) × (due .answer ≡ Err e)
-Carried f before after due (Err Memory) = after ≡ before
-Carried f before after due (Err NoArchive) = ⊥
-Carried f before after due (Err (Plan e)) = ⊥
-Carried f before after due (Err PlacesOutOfRange) = ⊥

@@ -1,5 +1,5 @@
 ghost use mathlib.Core.Path.{_≡_};
-ghost use Rattle.archive.specs.declared.fault.Fault.the-variants.{Memory};
+ghost use Rattle.archive.specs.declared.fault.Fault.the-variants.{Memory, Plan};
 use shelf::Refusal;
 use std::alloc::AllocError;
 
@@ -23,5 +23,13 @@ pub impl From<AllocError> for Fault as FaultFromAlloc {
 
     fn from(_e: AllocError) -> Fault {
         Fault::Memory
+    }
+}
+
+pub impl From<plan::Refusal> for Fault as FaultFromPlan {
+    ghost converts = { λ e r. r ≡ Plan e };
+
+    fn from(e: plan::Refusal) -> Fault {
+        Fault::Plan(e)
     }
 }

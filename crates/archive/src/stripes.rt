@@ -5,7 +5,8 @@ ghost use lib.ListN.{replicate};
 ghost use Rattle.std.specs.Of.Vec.{vec-items};
 ghost use Rattle.std.specs.Vec.{made};
 ghost use Rattle.std.specs.declared.option.Option.the-variants.{None};
-ghost use Rattle.archive.specs.Stripes.{held, held-at, shown, laying, writing, Carried, Sound};
+ghost use Rattle.archive.specs.Outcome.{Carried};
+ghost use Rattle.archive.specs.Stripes.{held, held-at, shown, laying, writing};
 use crate::fault::Fault;
 use crate::fault::FaultFromAlloc;
 use crate::stripe::Rewrite;
@@ -20,12 +21,26 @@ use std::alloc::AllocError;
 use std::alloc::Global;
 
 // The stripes of an archive, by place: none where nothing was laid.
+#[derive(Drop)]
 pub struct Stripes<P> {
     plan: P,
     places: Vec<Option<Stripe>>,
 }
 
 impl<P: Plan> Stripes<P> {
+    // Nothing is laid yet at any of the places.
+    pub fn new(heap: Global, plan: P, places: usize) -> Result<Stripes<P>, AllocError>
+    where
+        P: Drop,
+        ensures { λ r. ⌜ made r (λ s. (s .plan ≡ plan) × (held-at (vec-items (s .places)) ≡ replicate places None)) ⌝ }
+    {
+        let mut all = Vec::new(heap);
+        for place in 0..places {
+            all.push(None)?;
+        }
+        Ok(Stripes { plan, places: all })
+    }
+
     // Lays the words, one for each data bay, at a place, and answers the stripe that is there now.
     pub fn lay(&mut self, heap: Global, place: usize, words: &[u32]) -> Result<Stripe, Fault>
         ensures plan { λ _. ⌜ now (self .exit) .plan ≡ now (self .entry) .plan ⌝ }

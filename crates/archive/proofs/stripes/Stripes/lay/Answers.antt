@@ -1,6 +1,6 @@
 use mathlib.Core.Path.{_≡_, refl, sym, _∙_}
 use Rattle.std.specs.Of.Vec.{vec-items}
-use Rattle.archive.specs.Stripes.{held, held-at}
+use Rattle.archive.specs.Stripes.{held-at}
 use Rattle.archive.proofs.Calls.{held-length, held-set, lay-refused, lay-done}
 use Rattle.archive.proofs.stripes.Stripes.lay.Needs as need
 
@@ -22,6 +22,6 @@ returns g c =
       plan = refl;
       carried = lay-done (g .F·Field .arithmetic) (g .P·Plan .coefficients (s .plan)) (held-at (vec-items (s .places))) _ _ _
           (c .data-bays .ensures) (c .len .ensures ∙ held-length (s .places)) (c .size .ensures)
-          (c .args .place) (c .args .words .now) _ (held (c .in-Continue-answer .answer)) (sym (c .in-rest .ensures tt))
+          (c .args .place) (c .args .words .now) _ (c .in-Continue-answer .answer) (sym (c .in-rest .ensures tt))
           (held-set (vec-items (s .places)) (c .args .place) (c .in-Continue-stripe .stripe) _ made) (c .in-Continue-answer .ensures tt ∙ made);
     }

@@ -4,7 +4,7 @@ use native.Mathlib.Omega.{arith}
 use borrow.Author.Needs.{needs}
 use Rattle.std.specs.Of.Vec.{vec-items, vec-len}
 use Rattle.std.specs.declared.option.Option.the-variants.{None, Some}
-use Rattle.archive.specs.Stripes.{held, held-at, shown, comparing}
+use Rattle.archive.specs.Stripes.{held, held-at, comparing}
 use Rattle.archive.proofs.Calls.{held-length, held-here, held-set, write-refused, write-lost, write-done}
 use Rattle.archive.proofs.stripes.Stripes.write.Needs as need
 
@@ -42,7 +42,7 @@ returns g c =
       plan = refl;
       carried = write-done k x (held-at (vec-items (s .places))) _ _ _
           (c .data-bays .ensures) (c .len .ensures ∙ held-length (s .places)) (c .size .ensures)
-          (c .args .bay) (c .args .place) (c .args .word) (held stripe) _ (shown (c .in-Continue-rewrite .rewrite)) (sym (c .in-rest .ensures tt))
+          (c .args .bay) (c .args .place) (c .args .word) (held stripe) _ (c .in-Continue-rewrite .rewrite) (sym (c .in-rest .ensures tt))
           (held-here (vec-items (s .places)) (c .args .place) _ (Some stripe) (omega (arith, s .places .ok .0)) (c .index .ensures) (c .in-Some-index .is))
           (held-set (vec-items (s .places)) (c .args .place) (c .in-Continue-next .next) _ next)
           (c .in-Continue-rewrite .ensures tt ∙ ap (comparing k x (c .args .bay) (held stripe)) next);
