@@ -32,7 +32,8 @@ use Rattle.command.specs.declared.command.FieldName.{FieldName}
 use Rattle.command.specs.declared.command.FieldName.the-variants.{Nibble, Byte, Count}
 use Rattle.archive.specs.Outcome.{Outcome, Carried}
 use Rattle.archive.specs.Stripes.{Held, Shown, held, shown, laid, rewritten, comparing, Coded, Sound, laying-if, laying, writing-over, writing-if, writing}
-use Rattle.archive.specs.Contents.{Kept, arithmetic-of, plan-of, laying-in, writing-in, description-fault, fresh, AllCoded}
+use Rattle.archive.specs.Fields.{arithmetic-of}
+use Rattle.archive.specs.Contents.{Kept, plan-of, laying-in, writing-in, description-fault, fresh, AllCoded}
 use Rattle.archive.specs.declared.fault.Fault.{Fault}
 use Rattle.archive.specs.declared.fault.Fault.the-variants.{Plan}
 use Rattle.archive.specs.declared.stripe.Stripe.{Stripe}
@@ -82,9 +83,9 @@ module _ (k : Arithmetic) (l : Lawful k) (x : Coefficients) (h : Fitting k x) wh
     | inr past ↦ sound q t (ap (λ (xs : List (Option Held)). getD xs q None) (sym (set-past hs p (Some s) past)) ∙ e)
     | inl room ↦ elim (cases-eq q p) [
       | inl same ↦
-        let here : getD (set hs p (Some s)) q None ≡ Some s = ap (λ (y : ℕ). getD (set hs p (Some s)) y None) same ∙ getD-set-same hs p (Some s) None room in
-        let is : s ≡ t = cc in
-        subst (Coded k x) is c
+          let here : getD (set hs p (Some s)) q None ≡ Some s = ap (λ (y : ℕ). getD (set hs p (Some s)) y None) same ∙ getD-set-same hs p (Some s) None room in
+          let is : s ≡ t = cc in
+          subst (Coded k x) is c
       | inr other ↦ sound q t (sym (getD-set-other hs p q (Some s) None other) ∙ e)
     ]
   ]
@@ -175,11 +176,13 @@ range-fitting k l n m e =
 -- so an archive that was described is coded
 pub fresh-coded : (f : FieldName) (n m places : ℕ) → description-fault n m places ≡ None → AllCoded (Some (fresh f n m places))
 fresh-coded f n m places e =
-    let k = arithmetic-of f in
-    (elim (cases-bool (in-range n m)) [
-      | inl yes-range ↦ range-fitting k (lawful-of f) n m yes-range
-      | inr no-range ↦
-        let refused : description-fault n m places ≡ Some (Plan BaysOutOfRange) = cond-false (in-range n m) _ _ no-range in
-        let z : _≡_ {A = ℕ} 0 1 = cc in
-        absurd (let y : ⊥ = omega arith in y)
-    ], none-sound k (powers k n m) places)
+    let k = arithmetic-of f in (
+      elim (cases-bool (in-range n m)) [
+        | inl yes-range ↦ range-fitting k (lawful-of f) n m yes-range
+        | inr no-range ↦
+            let refused : description-fault n m places ≡ Some (Plan BaysOutOfRange) = cond-false (in-range n m) _ _ no-range in
+            let z : _≡_ {A = ℕ} 0 1 = cc in
+            absurd (let y : ⊥ = omega arith in y)
+      ],
+      none-sound k (powers k n m) places,
+    )

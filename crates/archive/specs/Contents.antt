@@ -11,8 +11,6 @@ use Rattle.std.specs.declared.option.Option.{Option}
 use Rattle.std.specs.declared.option.Option.the-variants.{Some, None}
 use Rattle.std.specs.declared.result.Result.{Result}
 use Rattle.std.specs.declared.result.Result.the-variants.{Ok, Err}
-use Rattle.field.specs.Arithmetic.{Arithmetic}
-use Rattle.field.specs.Fields as fields
 use Rattle.plan.specs.Coefficients.{Coefficients, Fitting}
 use Rattle.plan.specs.Powers.{powers}
 use Rattle.plan.specs.Refusals.{in-range}
@@ -20,6 +18,7 @@ use Rattle.plan.specs.declared.powers_plan.Powers.{Powers}
 use Rattle.plan.specs.declared.refusal.Refusal.the-variants.{BaysOutOfRange}
 use Rattle.command.specs.declared.command.FieldName.{FieldName}
 use Rattle.command.specs.declared.command.FieldName.the-variants as name
+use Rattle.archive.specs.Fields.{arithmetic-of}
 use Rattle.archive.specs.Outcome.{Outcome, refused}
 use Rattle.archive.specs.Stripes.{Held, Shown, held-at, laying, writing, Sound}
 use Rattle.archive.specs.declared.contents.Contents.{Contents}
@@ -39,11 +38,6 @@ kept Nothing = None
 kept (Nibble s) = Some (record { field = name.Nibble; data-bays = s .plan .«data_bays»; check-bays = s .plan .«check_bays»; places = held-at (vec-items (s .places)) })
 kept (Byte s) = Some (record { field = name.Byte; data-bays = s .plan .«data_bays»; check-bays = s .plan .«check_bays»; places = held-at (vec-items (s .places)) })
 kept (Count s) = Some (record { field = name.Count; data-bays = s .plan .«data_bays»; check-bays = s .plan .«check_bays»; places = held-at (vec-items (s .places)) })
-
-abbrev pub arithmetic-of : FieldName → Arithmetic
-arithmetic-of name.Nibble = fields.nibble
-arithmetic-of name.Byte = fields.byte
-arithmetic-of name.Count = fields.count
 
 abbrev pub plan-of : Kept → Coefficients
 plan-of v = powers (arithmetic-of (v .field)) (v .data-bays) (v .check-bays)

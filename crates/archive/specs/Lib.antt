@@ -1,3 +1,4 @@
+pub mod Fields
 pub mod Outcome
 pub mod Stripes
 pub mod Contents

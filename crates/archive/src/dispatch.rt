@@ -21,7 +21,12 @@ use std::alloc::Global;
 const MOST_PLACES: usize = 65_536;
 
 // New stripes by the plan of powers, with nothing laid.
-fn new_stripes<F: Field>(heap: Global, data_bays: usize, check_bays: usize, places: usize) -> Result<Stripes<Powers<F>>, Fault>
+fn new_stripes<F: Field>(
+    heap: Global,
+    data_bays: usize,
+    check_bays: usize,
+    places: usize,
+) -> Result<Stripes<Powers<F>>, Fault>
     ensures { λ r. ⌜ MadeStripes «data_bays» «check_bays» places r ⌝ }
 {
     let plan = Powers::<F>::new(data_bays, check_bays)?;
@@ -33,13 +38,25 @@ fn new_stripes<F: Field>(heap: Global, data_bays: usize, check_bays: usize, plac
 
 impl Contents {
     // A new archive, with nothing laid.
-    pub fn described(heap: Global, field: FieldName, data_bays: usize, check_bays: usize, places: usize) -> Result<Contents, Fault>
+    pub fn described(
+        heap: Global,
+        field: FieldName,
+        data_bays: usize,
+        check_bays: usize,
+        places: usize,
+    ) -> Result<Contents, Fault>
         ensures { λ r. ⌜ Made field «data_bays» «check_bays» places r ⌝ }
     {
         match field {
-            FieldName::Nibble => Ok(Contents::Nibble(new_stripes(heap, data_bays, check_bays, places)?)),
-            FieldName::Byte => Ok(Contents::Byte(new_stripes(heap, data_bays, check_bays, places)?)),
-            FieldName::Count => Ok(Contents::Count(new_stripes(heap, data_bays, check_bays, places)?)),
+            FieldName::Nibble => Ok(Contents::Nibble(
+                new_stripes(heap, data_bays, check_bays, places)?,
+            )),
+            FieldName::Byte => Ok(Contents::Byte(
+                new_stripes(heap, data_bays, check_bays, places)?,
+            )),
+            FieldName::Count => Ok(Contents::Count(
+                new_stripes(heap, data_bays, check_bays, places)?,
+            )),
         }
     }
 
@@ -54,7 +71,13 @@ impl Contents {
         }
     }
 
-    pub fn write(&mut self, heap: Global, bay: usize, place: usize, word: u32) -> Result<Rewrite, Fault>
+    pub fn write(
+        &mut self,
+        heap: Global,
+        bay: usize,
+        place: usize,
+        word: u32,
+    ) -> Result<Rewrite, Fault>
         ensures { λ r. ⌜ Carried shown (kept (now (self .entry))) (kept (now (self .exit))) (writing-in (kept (now (self .entry))) bay place word) r ⌝ }
     {
         match self {

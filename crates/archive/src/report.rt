@@ -1,6 +1,16 @@
+ghost use mathlib.Core.Path.{_≡_};
+ghost use Rattle.archive.specs.Fields.{arithmetic-of};
 use crate::stripe::Rewrite;
 use crate::stripe::Stripe;
 use command::FieldName;
+use field::Byte;
+use field::ByteField;
+use field::Count;
+use field::CountField;
+use field::Field;
+use field::Nibble;
+use field::NibbleField;
+use std::fmt;
 
 // What the account says of a command that was carried out.
 #[derive(Drop)]
@@ -24,4 +34,92 @@ pub enum Report {
         word: u32,
         rewrite: Rewrite,
     },
+}
+
+// Words, with blanks between them.
+#[derive(Clone, Copy)]
+struct Row<'a>(&'a [u32]);
+
+impl fmt::Display for Row<'_> as RowDisplay {
+    fn fmt<W: fmt::Write>(&self, f: &mut fmt::Formatter<W>) -> fmt::Result {
+        for (i, word) in self.0.iter().enumerate() {
+            if i > 0 {
+                f.write_str(" ")?;
+            }
+            write!(f, "{word}")?;
+        }
+        Ok(())
+    }
+}
+
+// The name of a field, as a script has it.
+fn field_name(field: FieldName) -> &'static str {
+    match field {
+        FieldName::Nibble => "nibble",
+        FieldName::Byte => "byte",
+        FieldName::Count => "count",
+    }
+}
+
+// The order of a field.
+fn order_of(field: FieldName) -> u32
+    ensures { λ r. ⌜ r ≡ arithmetic-of field .order ⌝ }
+{
+    match field {
+        FieldName::Nibble => Nibble::size(),
+        FieldName::Byte => Byte::size(),
+        FieldName::Count => Count::size(),
+    }
+}
+
+impl Rewrite {
+    // Whether the moved checks are the ones computed afresh.
+    fn verdict(&self) -> &'static str {
+        if self.after == self.afresh {
+            "the same"
+        } else {
+            "another"
+        }
+    }
+}
+
+pub impl fmt::Display for Report as ReportDisplay {
+    fn fmt<W: fmt::Write>(&self, f: &mut fmt::Formatter<W>) -> fmt::Result {
+        match self {
+            Report::Described {
+                field,
+                data_bays,
+                check_bays,
+                places,
+            } => {
+                let name = field_name(*field);
+                let order = order_of(*field);
+                write!(
+                    f,
+                    "archive: {name} field of order {order}, plan of powers, data bays {data_bays}, check bays {check_bays}, places {places}"
+                )
+            }
+            Report::Laid { place, stripe } => {
+                let words = Row(&stripe.words);
+                let checks = Row(&stripe.checks);
+                write!(f, "place {place}: data {words}, checks {checks}")
+            }
+            Report::Written {
+                bay,
+                place,
+                word,
+                rewrite,
+            } => {
+                let old = rewrite.old;
+                let before = Row(&rewrite.before);
+                let after = Row(&rewrite.after);
+                let afresh = Row(&rewrite.afresh);
+                let verdict = rewrite.verdict();
+                write!(
+                    f,
+                    "place {place}: bay {bay} from {old} to {word}, checks {before} to {after}, afresh {afresh}: {verdict}"
+                )
+            }
+        }
+    }
 }

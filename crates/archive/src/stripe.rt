@@ -29,7 +29,11 @@ pub struct Rewrite {
 }
 
 // The word of each check on the words of the data bays.
-pub(crate) fn check_words<P: Plan>(heap: Global, plan: &P, words: &[u32]) -> Result<Vec<u32>, AllocError>
+pub(crate) fn check_words<P: Plan>(
+    heap: Global,
+    plan: &P,
+    words: &[u32],
+) -> Result<Vec<u32>, AllocError>
     ensures { λ r. ⌜ made r (λ v. vec-items v ≡ checks-on (F·Field .arithmetic) (P·Plan .coefficients (now (plan .entry))) (codes (F·Field .arithmetic) (now (words .entry)))) ⌝ }
 {
     let mut checks = Vec::new(heap);
@@ -40,7 +44,14 @@ pub(crate) fn check_words<P: Plan>(heap: Global, plan: &P, words: &[u32]) -> Res
 }
 
 // Each check, moved from the old word of a data bay to the new one.
-fn moved_words<P: Plan>(heap: Global, plan: &P, bay: usize, checks: &[u32], old: u32, new: u32) -> Result<Vec<u32>, AllocError>
+fn moved_words<P: Plan>(
+    heap: Global,
+    plan: &P,
+    bay: usize,
+    checks: &[u32],
+    old: u32,
+    new: u32,
+) -> Result<Vec<u32>, AllocError>
     ensures { λ r. ⌜ made r (λ v. vec-items v ≡ all-moved (F·Field .arithmetic) (P·Plan .coefficients (now (plan .entry))) 0 bay (old % F·Field .arithmetic .order) (new % F·Field .arithmetic .order) (codes (F·Field .arithmetic) (now (checks .entry)))) ⌝ }
 {
     let mut moved = Vec::new(heap);
@@ -73,7 +84,13 @@ impl Stripe {
     }
 
     // The stripe with another word in a data bay: each check moves by its coefficient times the difference.
-    pub(crate) fn rewritten<P: Plan>(&self, heap: Global, plan: &P, bay: usize, word: u32) -> Result<Stripe, AllocError>
+    pub(crate) fn rewritten<P: Plan>(
+        &self,
+        heap: Global,
+        plan: &P,
+        bay: usize,
+        word: u32,
+    ) -> Result<Stripe, AllocError>
         ensures { λ r. ⌜ made r (λ s. held s ≡ rewritten (F·Field .arithmetic) (P·Plan .coefficients (now (plan .entry))) bay word (held (now (self .entry)))) ⌝ }
     {
         let checks = moved_words(heap, plan, bay, &self.checks, self.word(bay), word)?;
@@ -85,7 +102,13 @@ impl Stripe {
     }
 
     // What a rewrite in a data bay shows, from the stripe before it and the one after.
-    pub(crate) fn shown<P: Plan>(&self, heap: Global, plan: &P, bay: usize, next: &Stripe) -> Result<Rewrite, AllocError>
+    pub(crate) fn shown<P: Plan>(
+        &self,
+        heap: Global,
+        plan: &P,
+        bay: usize,
+        next: &Stripe,
+    ) -> Result<Rewrite, AllocError>
         ensures { λ r. ⌜ made r (λ w. shown w ≡ comparing (F·Field .arithmetic) (P·Plan .coefficients (now (plan .entry))) bay (held (now (self .entry))) (held (now (next .entry)))) ⌝ }
     {
         Ok(Rewrite {

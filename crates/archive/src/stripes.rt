@@ -46,7 +46,13 @@ impl<P: Plan> Stripes<P> {
         ensures plan { λ _. ⌜ now (self .exit) .plan ≡ now (self .entry) .plan ⌝ }
         ensures carried { λ r. ⌜ Carried held (held-at (vec-items (now (self .entry) .places))) (held-at (vec-items (now (self .exit) .places))) (laying (F·Field .arithmetic) (P·Plan .coefficients (now (self .entry) .plan)) (held-at (vec-items (now (self .entry) .places))) place (now (words .entry))) r ⌝ }
     {
-        if let Some(refusal) = lay_refusal(self.plan.data_bays(), self.places.len(), P::F::size(), place, words) {
+        if let Some(refusal) = lay_refusal(
+            self.plan.data_bays(),
+            self.places.len(),
+            P::F::size(),
+            place,
+            words,
+        ) {
             return Err(Fault::Refused(refusal));
         }
         let stripe = Stripe::laid(heap, &self.plan, words)?;
@@ -56,11 +62,24 @@ impl<P: Plan> Stripes<P> {
     }
 
     // Writes a word in a data bay at a place, and answers what the rewrite shows.
-    pub fn write(&mut self, heap: Global, bay: usize, place: usize, word: u32) -> Result<Rewrite, Fault>
+    pub fn write(
+        &mut self,
+        heap: Global,
+        bay: usize,
+        place: usize,
+        word: u32,
+    ) -> Result<Rewrite, Fault>
         ensures plan { λ _. ⌜ now (self .exit) .plan ≡ now (self .entry) .plan ⌝ }
         ensures carried { λ r. ⌜ Carried shown (held-at (vec-items (now (self .entry) .places))) (held-at (vec-items (now (self .exit) .places))) (writing (F·Field .arithmetic) (P·Plan .coefficients (now (self .entry) .plan)) (held-at (vec-items (now (self .entry) .places))) bay place word) r ⌝ }
     {
-        if let Some(refusal) = word_refusal(self.plan.data_bays(), self.places.len(), P::F::size(), bay, place, word) {
+        if let Some(refusal) = word_refusal(
+            self.plan.data_bays(),
+            self.places.len(),
+            P::F::size(),
+            bay,
+            place,
+            word,
+        ) {
             return Err(Fault::Refused(refusal));
         }
         let Some(stripe) = &self.places[place] else {

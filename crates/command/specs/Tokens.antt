@@ -8,9 +8,9 @@ use denote.Ref.{RefT}
 use Rattle.std.specs.declared.option.Option.{Option}
 use Rattle.std.specs.declared.option.Option.the-variants.{Some, None}
 
--- a space, a tab or a carriage return
+-- a space, a tab, a newline or a carriage return
 abbrev pub blank : ℕ → Bool
-blank c = eqb c 32 || (eqb c 9 || eqb c 13)
+blank c = eqb c 32 || (eqb c 9 || (eqb c 10 || eqb c 13))
 
 -- the text is empty or begins with a blank
 abbrev pub apart : List ℕ → Bool

@@ -11,5 +11,5 @@ wording UnknownCommand = codes "unknown command"
 wording UnknownField = codes "unknown field: nibble, byte or count"
 wording UnknownPlan = codes "unknown plan: powers"
 wording (NotANumber token) = codes "token " ++ (decimal token ++ codes " is not a number below 4294967296")
-wording TokenCount = codes "too few or too many words on the line"
+wording TokenCount = codes "too few or too many tokens for the command"
 wording Memory = codes "out of memory"

@@ -83,7 +83,7 @@ pub impl fmt::Display for Fault as FaultDisplay {
             Fault::UnknownField => write!(f, "unknown field: nibble, byte or count"),
             Fault::UnknownPlan => write!(f, "unknown plan: powers"),
             Fault::NotANumber(token) => write!(f, "token {token} is not a number below 4294967296"),
-            Fault::TokenCount => write!(f, "too few or too many words on the line"),
+            Fault::TokenCount => write!(f, "too few or too many tokens for the command"),
             Fault::Memory => write!(f, "out of memory"),
         }
     }

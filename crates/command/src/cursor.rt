@@ -34,5 +34,5 @@ fn run_length(text: &[u8], blanks: bool) -> usize
 fn is_blank(byte: u8) -> bool
     ensures { λ r. ⌜ r ≡ blank byte ⌝ }
 {
-    byte == b' ' || byte == b'\t' || byte == b'\r'
+    byte == b' ' || byte == b'\t' || byte == b'\n' || byte == b'\r'
 }

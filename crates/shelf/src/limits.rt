@@ -15,7 +15,14 @@ fn any_beyond(words: &[u32], limit: u32) -> bool
 }
 
 // Why a call that sets one cell is refused, whatever the cells hold.
-pub fn word_refusal(bays: usize, places: usize, limit: u32, bay: usize, place: usize, word: u32) -> Option<Refusal>
+pub fn word_refusal(
+    bays: usize,
+    places: usize,
+    limit: u32,
+    bay: usize,
+    place: usize,
+    word: u32,
+) -> Option<Refusal>
     ensures { λ r. ⌜ r ≡ word-refusal bays places limit bay place word ⌝ }
 {
     if bay >= bays {
@@ -30,7 +37,13 @@ pub fn word_refusal(bays: usize, places: usize, limit: u32, bay: usize, place: u
 }
 
 // Why a lay is refused, whatever the cells hold.
-pub fn lay_refusal(bays: usize, places: usize, limit: u32, place: usize, words: &[u32]) -> Option<Refusal>
+pub fn lay_refusal(
+    bays: usize,
+    places: usize,
+    limit: u32,
+    place: usize,
+    words: &[u32],
+) -> Option<Refusal>
     ensures { λ r. ⌜ r ≡ lay-refusal bays places limit place (now (words .entry)) ⌝ }
 {
     if place >= places {

@@ -22,7 +22,7 @@ returns g c =
     let words : vec-items (c .if-bay-len .words) ≡ set ws bay word = elim (c .if-bay-len .came) [
       | then-bay-len w ↦ ap vec-items (w .words-is) ∙ ap (λ xs. set xs bay word) copy
       | else-bay-len w ↦
-        ap vec-items (w .words-is) ∙ copy ∙ sym (set-past ws bay word (omega (arith, w .if-bay-len .left, c .in-Continue-words .ensures tt .made .1, c .deref-2 .ensures .len, c .args .self .now .words .ok .0)))
+          ap vec-items (w .words-is) ∙ copy ∙ sym (set-past ws bay word (omega (arith, w .if-bay-len .left, c .in-Continue-words .ensures tt .made .1, c .deref-2 .ensures .len, c .args .self .now .words .ok .0)))
     ] in
     both-held words
     (c .in-Continue-checks .ensures tt
