@@ -19,12 +19,14 @@ use Rattle.plan.specs.declared.refusal.Refusal.the-variants.{BaysOutOfRange}
 use Rattle.command.specs.declared.command.FieldName.{FieldName}
 use Rattle.command.specs.declared.command.FieldName.the-variants as name
 use Rattle.archive.specs.Fields.{arithmetic-of}
-use Rattle.archive.specs.Outcome.{Outcome, refused}
-use Rattle.archive.specs.Stripes.{Held, Shown, held-at, laying, writing, Sound}
+use Rattle.archive.specs.Outcome.{Outcome, refused, Carried}
+use Rattle.archive.specs.Stripes.{Held, Shown, held, shown, held-at, laying, writing, Sound}
 use Rattle.archive.specs.declared.contents.Contents.{Contents}
 use Rattle.archive.specs.declared.contents.Contents.the-variants.{Nothing, Nibble, Byte, Count}
 use Rattle.archive.specs.declared.fault.Fault.{Fault}
 use Rattle.archive.specs.declared.fault.Fault.the-variants.{NoArchive, Plan, PlacesOutOfRange, Memory}
+use Rattle.archive.specs.declared.stripe.Stripe.{Stripe}
+use Rattle.archive.specs.declared.stripe.Rewrite.{Rewrite}
 use Rattle.archive.specs.declared.stripes.Stripes.{Stripes}
 
 pub record Kept : Type 0 where
@@ -94,3 +96,10 @@ MadeStripes n m places (Ok s) =
     (description-fault n m places ≡ None)
     × (s .plan .«data_bays» ≡ n) × (s .plan .«check_bays» ≡ m) × (held-at (vec-items (s .places)) ≡ replicate places None)
 MadeStripes n m places (Err e) = (description-fault n m places ≡ Some e) ⊎ (e ≡ Memory)
+
+-- What the calls promise of the contents before and after them.
+abbrev pub LaysIn : Contents → Contents → ℕ → List ℕ → Result Stripe Fault → Type 0
+LaysIn before after place words r = Carried held (kept before) (kept after) (laying-in (kept before) place words) r
+
+abbrev pub WritesIn : Contents → Contents → ℕ → ℕ → ℕ → Result Rewrite Fault → Type 0
+WritesIn before after bay place word r = Carried shown (kept before) (kept after) (writing-in (kept before) bay place word) r

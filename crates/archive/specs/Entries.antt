@@ -3,16 +3,19 @@ use mathlib.Core.Path.{_≡_}
 use mathlib.Core.List.{List}
 use Prim.Native.Nat.{ℕ}
 use Rattle.std.specs.Of.Vec.{vec-items}
+use Rattle.std.specs.Options.{mapped}
 use Rattle.std.specs.declared.option.Option.{Option}
 use Rattle.std.specs.declared.option.Option.the-variants.{Some, None}
 use Rattle.std.specs.declared.result.Result.{Result}
 use Rattle.std.specs.declared.result.Result.the-variants.{Ok, Err}
-use Rattle.command.specs.Reading.{Order, archive, lay, write, reading}
+use Rattle.command.specs.Reading.{Order, archive, lay, write, meant, reading}
+use Rattle.command.specs.declared.command.Command.{Command}
 use Rattle.command.specs.declared.command.Fault as command
 use Rattle.command.specs.declared.command.FieldName.{FieldName}
-use Rattle.archive.specs.Outcome.{Outcome, refused, read-fault}
+use Rattle.archive.specs.Outcome.{Outcome, refused, read-fault, Carried}
 use Rattle.archive.specs.Stripes.{Held, Shown, held, shown}
-use Rattle.archive.specs.Contents.{Kept, describing, laying-in, writing-in}
+use Rattle.archive.specs.Contents.{Kept, kept, describing, laying-in, writing-in}
+use Rattle.archive.specs.declared.contents.Contents.{Contents}
 use Rattle.archive.specs.declared.fault.Fault.{Fault}
 use Rattle.archive.specs.declared.report.Report.{Report}
 use Rattle.archive.specs.declared.report.Report.the-variants.{Described, Laid, Written}
@@ -49,6 +52,13 @@ taking-read s (Err e) = refused s (read-fault e)
 
 abbrev pub taking : Option Kept → List ℕ → Outcome (Option Kept) (Option Entry)
 taking s line = taking-read s (reading line)
+
+-- What a command, and a line, promise of the contents before and after them.
+abbrev pub Carries : Contents → Contents → Command → Result Report Fault → Type 0
+Carries before after command r = Carried entry (kept before) (kept after) (carrying (kept before) (meant command)) r
+
+abbrev pub Takes : Contents → Contents → List ℕ → Result (Option Report) Fault → Type 0
+Takes before after line r = Carried (mapped entry) (kept before) (kept after) (taking (kept before) line) r
 
 -- Where a word was written, the moved checks are the ones computed afresh.
 abbrev pub Afresh : Result (Option Report) Fault → Type 0

@@ -7,6 +7,7 @@ use Rattle.std.specs.Of.Vec.{vec-items}
 use Rattle.std.specs.Options.{mapped}
 use Rattle.std.specs.declared.option.Option.{Option}
 use Rattle.std.specs.declared.option.Option.the-variants.{Some, None}
+use Rattle.std.specs.declared.result.Result.{Result}
 use Rattle.std.specs.declared.result.Result.the-variants.{Ok}
 use Rattle.field.specs.Arithmetic.{Arithmetic}
 use Rattle.plan.specs.Coefficients.{Coefficients}
@@ -14,7 +15,8 @@ use Rattle.plan.specs.Rows.{Vector, codes, checks-on, all-moved}
 use Rattle.shelf.specs.Refusals.{word-refusal, lay-refusal}
 use Rattle.shelf.specs.declared.refusal.Refusal.{Refusal}
 use Rattle.shelf.specs.declared.refusal.Refusal.the-variants.{Lost}
-use Rattle.archive.specs.Outcome.{Outcome, refused}
+use Rattle.archive.specs.Outcome.{Outcome, refused, Carried}
+use Rattle.archive.specs.declared.fault.Fault.{Fault}
 use Rattle.archive.specs.declared.fault.Fault.the-variants.{Refused}
 use Rattle.archive.specs.declared.stripe.Stripe.{Stripe}
 use Rattle.archive.specs.declared.stripe.Rewrite.{Rewrite}
@@ -93,3 +95,12 @@ writing-if k x hs bay place word None = writing-over k x hs bay place word (getD
 abbrev pub writing : Arithmetic → Coefficients → List (Option Held) → ℕ → ℕ → ℕ → Outcome (List (Option Held)) Shown
 writing k x hs bay place word =
     writing-if k x hs bay place word (word-refusal (x .n) (length hs) (k .order) bay place word)
+
+-- What the calls promise of the stripes before and after them.
+abbrev pub Lays : Arithmetic → Coefficients → List (Option Stripe) → List (Option Stripe) → ℕ → List ℕ → Result Stripe Fault → Type 0
+Lays k x before after place words r =
+    Carried held (held-at before) (held-at after) (laying k x (held-at before) place words) r
+
+abbrev pub Writes : Arithmetic → Coefficients → List (Option Stripe) → List (Option Stripe) → ℕ → ℕ → ℕ → Result Rewrite Fault → Type 0
+Writes k x before after bay place word r =
+    Carried shown (held-at before) (held-at after) (writing k x (held-at before) bay place word) r

@@ -1,10 +1,7 @@
 ghost use mathlib.Core.Path.{_≡_};
 ghost use Rattle.std.specs.declared.option.Option.the-variants.{Some, None};
-ghost use Rattle.std.specs.Options.{mapped};
-ghost use Rattle.command.specs.Reading.{meant};
 ghost use Rattle.archive.specs.Contents.{kept};
-ghost use Rattle.archive.specs.Entries.{entry, carrying, taking, answered, Afresh};
-ghost use Rattle.archive.specs.Outcome.{Carried};
+ghost use Rattle.archive.specs.Entries.{answered, Carries, Takes, Afresh};
 use crate::contents::Contents;
 use crate::fault::Fault;
 use crate::fault::FaultFromText;
@@ -27,7 +24,7 @@ impl Archive {
     // Carries out one line of a script, and answers what the account says of it: nothing, where the line means nothing.
     // A line that is refused changes nothing. The checks that a write moved are the ones computed afresh.
     pub fn take_line(&mut self, heap: Global, line: &[u8]) -> Result<Option<Report>, Fault>
-        ensures carried { λ r. ⌜ Carried (mapped entry) (kept (now (self .entry) .contents)) (kept (now (self .exit) .contents)) (taking (kept (now (self .entry) .contents)) (now (line .entry))) r ⌝ }
+        ensures takes { λ r. ⌜ Takes (now (self .entry) .contents) (now (self .exit) .contents) (now (line .entry)) r ⌝ }
         ensures afresh { λ r. ⌜ Afresh r ⌝ }
     {
         match read_command(heap, line)? {
@@ -38,7 +35,7 @@ impl Archive {
 
     // Carries out a command.
     fn carry_out(&mut self, heap: Global, command: Command) -> Result<Report, Fault>
-        ensures carried { λ r. ⌜ Carried entry (kept (now (self .entry) .contents)) (kept (now (self .exit) .contents)) (carrying (kept (now (self .entry) .contents)) (meant command)) r ⌝ }
+        ensures carries { λ r. ⌜ Carries (now (self .entry) .contents) (now (self .exit) .contents) command r ⌝ }
         ensures afresh { λ r. ⌜ Afresh (answered Some r) ⌝ }
     {
         match command {

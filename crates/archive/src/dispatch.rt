@@ -1,6 +1,4 @@
-ghost use Rattle.archive.specs.Contents.{kept, laying-in, writing-in, Made, MadeStripes};
-ghost use Rattle.archive.specs.Outcome.{Carried};
-ghost use Rattle.archive.specs.Stripes.{held, shown};
+ghost use Rattle.archive.specs.Contents.{LaysIn, WritesIn, Made, MadeStripes};
 use crate::contents::Contents;
 use crate::fault::Fault;
 use crate::fault::FaultFromAlloc;
@@ -60,8 +58,9 @@ impl Contents {
         }
     }
 
+    // Lays the words at a place, whatever the field.
     pub fn lay(&mut self, heap: Global, place: usize, words: &[u32]) -> Result<Stripe, Fault>
-        ensures { λ r. ⌜ Carried held (kept (now (self .entry))) (kept (now (self .exit))) (laying-in (kept (now (self .entry))) place (now (words .entry))) r ⌝ }
+        ensures { λ r. ⌜ LaysIn (now (self .entry)) (now (self .exit)) place (now (words .entry)) r ⌝ }
     {
         match self {
             Contents::Nothing => Err(Fault::NoArchive),
@@ -71,6 +70,7 @@ impl Contents {
         }
     }
 
+    // Writes a word in a data bay at a place, whatever the field.
     pub fn write(
         &mut self,
         heap: Global,
@@ -78,7 +78,7 @@ impl Contents {
         place: usize,
         word: u32,
     ) -> Result<Rewrite, Fault>
-        ensures { λ r. ⌜ Carried shown (kept (now (self .entry))) (kept (now (self .exit))) (writing-in (kept (now (self .entry))) bay place word) r ⌝ }
+        ensures { λ r. ⌜ WritesIn (now (self .entry)) (now (self .exit)) bay place word r ⌝ }
     {
         match self {
             Contents::Nothing => Err(Fault::NoArchive),

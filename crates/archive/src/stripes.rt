@@ -1,17 +1,13 @@
-ghost use mathlib.Core.Bool.{false};
-ghost use mathlib.Core.List.{List};
 ghost use mathlib.Core.Path.{_≡_};
 ghost use lib.ListN.{replicate};
 ghost use Rattle.std.specs.Of.Vec.{vec-items};
 ghost use Rattle.std.specs.Vec.{made};
 ghost use Rattle.std.specs.declared.option.Option.the-variants.{None};
-ghost use Rattle.archive.specs.Outcome.{Carried};
-ghost use Rattle.archive.specs.Stripes.{held, held-at, shown, laying, writing};
+ghost use Rattle.archive.specs.Stripes.{held-at, Lays, Writes};
 use crate::fault::Fault;
 use crate::fault::FaultFromAlloc;
 use crate::stripe::Rewrite;
 use crate::stripe::Stripe;
-use crate::stripe::check_words;
 use field::Field;
 use plan::Plan;
 use shelf::Refusal;
@@ -44,7 +40,7 @@ impl<P: Plan> Stripes<P> {
     // Lays the words, one for each data bay, at a place, and answers the stripe that is there now.
     pub fn lay(&mut self, heap: Global, place: usize, words: &[u32]) -> Result<Stripe, Fault>
         ensures plan { λ _. ⌜ now (self .exit) .plan ≡ now (self .entry) .plan ⌝ }
-        ensures carried { λ r. ⌜ Carried held (held-at (vec-items (now (self .entry) .places))) (held-at (vec-items (now (self .exit) .places))) (laying (F·Field .arithmetic) (P·Plan .coefficients (now (self .entry) .plan)) (held-at (vec-items (now (self .entry) .places))) place (now (words .entry))) r ⌝ }
+        ensures lays { λ r. ⌜ Lays (F·Field .arithmetic) (P·Plan .coefficients (now (self .entry) .plan)) (vec-items (now (self .entry) .places)) (vec-items (now (self .exit) .places)) place (now (words .entry)) r ⌝ }
     {
         if let Some(refusal) = lay_refusal(
             self.plan.data_bays(),
@@ -70,7 +66,7 @@ impl<P: Plan> Stripes<P> {
         word: u32,
     ) -> Result<Rewrite, Fault>
         ensures plan { λ _. ⌜ now (self .exit) .plan ≡ now (self .entry) .plan ⌝ }
-        ensures carried { λ r. ⌜ Carried shown (held-at (vec-items (now (self .entry) .places))) (held-at (vec-items (now (self .exit) .places))) (writing (F·Field .arithmetic) (P·Plan .coefficients (now (self .entry) .plan)) (held-at (vec-items (now (self .entry) .places))) bay place word) r ⌝ }
+        ensures writes { λ r. ⌜ Writes (F·Field .arithmetic) (P·Plan .coefficients (now (self .entry) .plan)) (vec-items (now (self .entry) .places)) (vec-items (now (self .exit) .places)) bay place word r ⌝ }
     {
         if let Some(refusal) = word_refusal(
             self.plan.data_bays(),

@@ -9,7 +9,7 @@ returns-in-Some g c =
     let s = c .args .self .now in
     record {
       plan = refl;
-      carried = lay-refused (g .F·Field .arithmetic) (g .P·Plan .coefficients (s .plan)) (held-at (vec-items (s .places))) _ _ _
+      lays = lay-refused (g .F·Field .arithmetic) (g .P·Plan .coefficients (s .plan)) (held-at (vec-items (s .places))) _ _ _
           (c .data-bays .ensures) (c .len .ensures ∙ held-length (s .places)) (c .size .ensures)
           (c .args .place) (c .args .words .now) (c .in-Some .refusal) (sym (c .in-Some .ensures tt));
     }
@@ -20,7 +20,7 @@ returns g c =
     let made = c .in-Continue-stripe .ensures tt in
     record {
       plan = refl;
-      carried = lay-done (g .F·Field .arithmetic) (g .P·Plan .coefficients (s .plan)) (held-at (vec-items (s .places))) _ _ _
+      lays = lay-done (g .F·Field .arithmetic) (g .P·Plan .coefficients (s .plan)) (held-at (vec-items (s .places))) _ _ _
           (c .data-bays .ensures) (c .len .ensures ∙ held-length (s .places)) (c .size .ensures)
           (c .args .place) (c .args .words .now) _ (c .in-Continue-answer .answer) (sym (c .in-rest .ensures tt))
           (held-set (vec-items (s .places)) (c .args .place) (c .in-Continue-stripe .stripe) _ made) (c .in-Continue-answer .ensures tt ∙ made);

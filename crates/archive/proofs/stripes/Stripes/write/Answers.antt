@@ -13,7 +13,7 @@ returns-in-Some g c =
     let s = c .args .self .now in
     record {
       plan = refl;
-      carried = write-refused (g .F·Field .arithmetic) (g .P·Plan .coefficients (s .plan)) (held-at (vec-items (s .places))) _ _ _
+      writes = write-refused (g .F·Field .arithmetic) (g .P·Plan .coefficients (s .plan)) (held-at (vec-items (s .places))) _ _ _
           (c .data-bays .ensures) (c .len .ensures ∙ held-length (s .places)) (c .size .ensures)
           (c .args .bay) (c .args .place) (c .args .word) (c .in-Some .refusal) (sym (c .in-Some .ensures tt));
     }
@@ -24,7 +24,7 @@ returns-in-rest-index g c =
     let room : c .args .place < vec-len (s .places) = search needs in
     record {
       plan = refl;
-      carried = write-lost (g .F·Field .arithmetic) (g .P·Plan .coefficients (s .plan)) (held-at (vec-items (s .places))) _ _ _
+      writes = write-lost (g .F·Field .arithmetic) (g .P·Plan .coefficients (s .plan)) (held-at (vec-items (s .places))) _ _ _
           (c .data-bays .ensures) (c .len .ensures ∙ held-length (s .places)) (c .size .ensures)
           (c .args .bay) (c .args .place) (c .args .word) (sym (c .in-rest .ensures tt))
           (held-here (vec-items (s .places)) (c .args .place) _ None (omega (arith, s .places .ok .0)) (c .index .ensures) (c .in-rest-index .is));
@@ -40,7 +40,7 @@ returns g c =
     let room : c .args .place < vec-len (s .places) = search needs in
     record {
       plan = refl;
-      carried = write-done k x (held-at (vec-items (s .places))) _ _ _
+      writes = write-done k x (held-at (vec-items (s .places))) _ _ _
           (c .data-bays .ensures) (c .len .ensures ∙ held-length (s .places)) (c .size .ensures)
           (c .args .bay) (c .args .place) (c .args .word) (held stripe) _ (c .in-Continue-rewrite .rewrite) (sym (c .in-rest .ensures tt))
           (held-here (vec-items (s .places)) (c .args .place) _ (Some stripe) (omega (arith, s .places .ok .0)) (c .index .ensures) (c .in-Some-index .is))

@@ -23,7 +23,7 @@ ghost-self-in-Write c =
 
 pub returns-in-Continue-rewrite : need.returns-in-Continue-rewrite
 returns-in-Continue-rewrite c = record {
-  carried = search needs;
+  carries = search needs;
   afresh = ∥∥₁-elim (c .args .self .now .coded) (List·isSet ℕ-set _ _)
       (λ coded. afresh-in (kept (c .args .self .now .contents)) (c .in-Write .bay) (c .in-Write .place) (c .in-Write .word) coded (shown (c .in-Continue-rewrite .rewrite)) (c .in-Continue-rewrite .ensures tt .1));
 }
