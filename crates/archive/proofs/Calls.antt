@@ -51,6 +51,7 @@ module _ (k : Arithmetic) (x : Coefficients) (hs : List (Option Held)) (bays pla
       ∙ ap (λ p. lay-refusal (x .n) p limit place words) ep
       ∙ ap (λ l. lay-refusal (x .n) (length hs) l place words) el
 
+  -- the test of a write, likewise
   word-test : (bay place word : ℕ) → word-refusal bays places limit bay place word ≡ word-refusal (x .n) (length hs) (k .order) bay place word
   word-test bay place word =
       ap (λ b. word-refusal b places limit bay place word) eb
@@ -69,6 +70,7 @@ module _ (k : Arithmetic) (x : Coefficients) (hs : List (Option Held)) (bays pla
       let P : Option Refusal → Type 0 = λ o. Carried held hs after (laying-if k x hs place words o) (Ok answer) in
       subst P (sym (sym (lay-test place words) ∙ is)) (ea, ap Ok (sym er))
 
+  -- a write that is refused leaves all as it was
   pub write-refused : (bay place word : ℕ) (e : Refusal) → word-refusal bays places limit bay place word ≡ Some e → Carried shown hs hs (writing k x hs bay place word) (Err (Refused e))
   write-refused bay place word e is =
       let P : Option Refusal → Type 0 = λ o. Carried shown hs hs (writing-if k x hs bay place word o) (Err (Refused e)) in

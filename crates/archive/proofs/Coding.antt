@@ -39,6 +39,7 @@ use Rattle.archive.specs.declared.fault.Fault.the-variants.{Plan}
 use Rattle.archive.specs.declared.stripe.Stripe.{Stripe}
 use Rattle.archive.specs.declared.stripe.Rewrite.{Rewrite}
 
+-- every field that a script names keeps the laws
 lawful-of : (f : FieldName) → Lawful (arithmetic-of f)
 lawful-of Nibble = fields.nibble .laws
 lawful-of Byte = fields.byte .laws
@@ -90,6 +91,7 @@ module _ (k : Arithmetic) (l : Lawful k) (x : Coefficients) (h : Fitting k x) wh
     ]
   ]
 
+  -- a lay that is refused changes nothing, and one that is not sets a coded stripe
   pub laying-sound : (hs : List (Option Held)) (place : ℕ) (words : List ℕ) → Sound k x hs → Sound k x (laying k x hs place words .after)
   laying-sound hs place words sound = go (lay-refusal (x .n) (length hs) (k .order) place words) refl
     where
@@ -104,6 +106,7 @@ module _ (k : Arithmetic) (l : Lawful k) (x : Coefficients) (h : Fitting k x) wh
       let fit = word-fit (x .n) (length hs) (k .order) bay place word e in
       sound-set hs place (rewritten k x bay word s) sound (rewritten-coded bay word s (fit .0) (fit .2) (sound place s is))
 
+  -- a write that is refused changes nothing, and one that is not rewrites a coded stripe
   pub writing-sound : (hs : List (Option Held)) (bay place word : ℕ) → Sound k x hs → Sound k x (writing k x hs bay place word .after)
   writing-sound hs bay place word sound = go (word-refusal (x .n) (length hs) (k .order) bay place word) refl
     where
@@ -119,6 +122,7 @@ module _ (k : Arithmetic) (l : Lawful k) (x : Coefficients) (h : Fitting k x) wh
       let same : comparing k x bay s (rewritten k x bay word s) ≡ w = cc in
       subst (λ (v : Shown). v .after ≡ v .afresh) same (shown-afresh bay word s (fit .0) (fit .2) (sound place s is))
 
+  -- the same of what the call answers
   pub writing-afresh : (hs : List (Option Held)) (bay place word : ℕ) → Sound k x hs → (w : Shown) → writing k x hs bay place word .answer ≡ Ok w → w .after ≡ w .afresh
   writing-afresh hs bay place word sound w = go (word-refusal (x .n) (length hs) (k .order) bay place word) refl
     where
@@ -128,16 +132,19 @@ module _ (k : Arithmetic) (l : Lawful k) (x : Coefficients) (h : Fitting k x) wh
 
 -- the same of an archive, whatever its field
 
+-- a lay
 laying-coded : (s : Option Kept) (place : ℕ) (words : List ℕ) → AllCoded s → AllCoded (laying-in s place words .after)
 laying-coded None place words coded = tt
 laying-coded (Some v) place words coded =
     (coded .0, laying-sound (arithmetic-of (v .field)) (lawful-of (v .field)) (plan-of v) (coded .0) (v .places) place words (coded .1))
 
+-- a write
 writing-coded : (s : Option Kept) (bay place word : ℕ) → AllCoded s → AllCoded (writing-in s bay place word .after)
 writing-coded None bay place word coded = tt
 writing-coded (Some v) bay place word coded =
     (coded .0, writing-sound (arithmetic-of (v .field)) (lawful-of (v .field)) (plan-of v) (coded .0) (v .places) bay place word (coded .1))
 
+-- what a write answers
 pub afresh-in : (s : Option Kept) (bay place word : ℕ) → AllCoded s → (w : Shown) → writing-in s bay place word .answer ≡ Ok w → w .after ≡ w .afresh
 afresh-in None bay place word coded w no-answer = let z : _≡_ {A = ℕ} 0 1 = cc in absurd (let y : ⊥ = omega arith in y)
 afresh-in (Some v) bay place word coded w answer =
@@ -149,9 +156,11 @@ after-either f s t due P (Ok b) c before after = subst P (sym (c .0)) after
 after-either f s t due P (Err e) c before after =
     ⊎-elim (λ d. subst P (sym (d .0)) after) (λ m. subst P (sym (m .1)) before) c
 
+-- so a lay keeps every stripe coded
 pub lay-keeps : (s t : Option Kept) (place : ℕ) (words : List ℕ) (r : Result Stripe Fault) → Carried held s t (laying-in s place words) r → AllCoded s → AllCoded t
 lay-keeps s t place words r c coded = after-either held s t (laying-in s place words) AllCoded r c coded (laying-coded s place words coded)
 
+-- and so does a write
 pub write-keeps : (s t : Option Kept) (bay place word : ℕ) (r : Result Rewrite Fault) → Carried shown s t (writing-in s bay place word) r → AllCoded s → AllCoded t
 write-keeps s t bay place word r c coded = after-either shown s t (writing-in s bay place word) AllCoded r c coded (writing-coded s bay place word coded)
 
@@ -161,6 +170,7 @@ none-sound k x zero p h e = let z : _≡_ {A = ℕ} 0 1 = cc in absurd (let y : 
 none-sound k x (suc n) zero h e = let z : _≡_ {A = ℕ} 0 1 = cc in absurd (let y : ⊥ = omega arith in y)
 none-sound k x (suc n) (suc p) h e = none-sound k x n p h e
 
+-- both tests pass
 both-true : (a b : Bool) → (a && b) ≡ true → (a ≡ true) × (b ≡ true)
 both-true true b e = (refl, e)
 both-true false b e = absurd (both-ways false refl e)

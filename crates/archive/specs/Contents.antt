@@ -35,12 +35,22 @@ pub record Kept : Type 0 where
   pub check-bays : ℕ
   pub places : List (Option Held)
 
+abbrev pub kept-by : {F : Type 0} → FieldName → Stripes (Powers F) → Kept
+kept-by f s = record {
+  field = f;
+  data-bays = s .plan .«data_bays»;
+  check-bays = s .plan .«check_bays»;
+  places = held-at (vec-items (s .places));
+}
+
+-- none, where no archive is described yet
 abbrev pub kept : Contents → Option Kept
 kept Nothing = None
-kept (Nibble s) = Some (record { field = name.Nibble; data-bays = s .plan .«data_bays»; check-bays = s .plan .«check_bays»; places = held-at (vec-items (s .places)) })
-kept (Byte s) = Some (record { field = name.Byte; data-bays = s .plan .«data_bays»; check-bays = s .plan .«check_bays»; places = held-at (vec-items (s .places)) })
-kept (Count s) = Some (record { field = name.Count; data-bays = s .plan .«data_bays»; check-bays = s .plan .«check_bays»; places = held-at (vec-items (s .places)) })
+kept (Nibble s) = Some (kept-by name.Nibble s)
+kept (Byte s) = Some (kept-by name.Byte s)
+kept (Count s) = Some (kept-by name.Count s)
 
+-- its plan is the plan of powers
 abbrev pub plan-of : Kept → Coefficients
 plan-of v = powers (arithmetic-of (v .field)) (v .data-bays) (v .check-bays)
 
@@ -51,6 +61,7 @@ within v o = record {
   answer = o .answer;
 }
 
+-- a lay, and a write, in an archive: refused where there is none
 abbrev pub laying-in : Option Kept → ℕ → List ℕ → Outcome (Option Kept) Held
 laying-in None place words = refused None NoArchive
 laying-in (Some v) place words = within v (laying (arithmetic-of (v .field)) (plan-of v) (v .places) place words)

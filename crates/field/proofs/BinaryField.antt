@@ -14,9 +14,11 @@ use Rattle.field.proofs.Laws as laws
 use Rattle.field.proofs.Inverse as inverse
 use Rattle.field.proofs.Powers.{Tables, logs-table, power-below, power-add, power-at, log-below, log-power}
 
+-- a map that keeps the exclusive or gives 0 at 0
 pub zero-left : (w m b : ℕ) → mul-mod w m 0 b ≡ 0
 zero-left w m b = at-zero (λ a. mul-mod w m a b) (mul-bilinear w m .left b)
 
+-- in the other argument too
 pub zero-right : (w m a : ℕ) → mul-mod w m a 0 ≡ 0
 zero-right w m a = at-zero (mul-mod w m a) (mul-bilinear w m .right a)
 
@@ -32,6 +34,7 @@ module _ (w m : ℕ) (mul : Products w m) (low : 16 ≤ 2 ^ w) (high : 2 ^ w ≤
   wide : 2 < 2 ^ w
   wide = omega arith
 
+  -- the powers come round: an entry of the table
   turn : power-of-x w m (2 ^ w - 1) ≡ 1
   turn = sym (power-at w m (2 ^ w - 1) (omega arith)) ∙ eqb→eq _ _ (tables .turn)
 
@@ -39,6 +42,7 @@ module _ (w m : ℕ) (mul : Products w m) (low : 16 ≤ 2 ^ w) (high : 2 ^ w ≤
   other : (a : ℕ) → a < 2 ^ w → a ≢ 0 → mul-mod w m a (power-of-x w m (2 ^ w - 1 - getD (logs-table w m) a 0)) ≡ 1
   other a l h = partner w m mul wide turn (getD (logs-table w m) a 0) a (log-below w m tables a l h) (log-power w m tables a l h)
 
+  -- sums are exclusive or, and inverses are the partners
   pub cyclic : Cyclic w m
   cyclic = record {
     laws = record {
@@ -63,9 +67,11 @@ module _ (w m : ℕ) (mul : Products w m) (low : 16 ≤ 2 ^ w) (high : 2 ^ w ≤
 
 -- The product and the inverse of codes that are powers, from the laws alone.
 module _ (w m : ℕ) (ready : Cyclic w m) where
+  -- the laws of the products alone
   of-laws : Products w m
   of-laws = record { below = ready .laws .mul-below; comm = ready .laws .mul-comm; one = ready .laws .one-mul; assoc = ready .laws .mul-assoc }
 
+  -- x itself is a code
   wide-enough : 2 < 2 ^ w
   wide-enough = omega (arith, ready .laws .order-low)
 

@@ -7,9 +7,11 @@ use native.Mathlib.Omega.{arith}
 use lib.Dec.{T, eqb, eqb→eq, eqb-refl}
 use Rattle.field.specs.Inverse.{pick, inverse-by}
 
+-- r is below n and passes
 Right : (ℕ → Bool) → ℕ → ℕ → Type 0
 Right f n r = (r < n) × T (f r)
 
+-- where some number below n passes, the picked one does
 pub pick-right : (f : ℕ → Bool) (n k : ℕ) → k < n → T (f k) → (pick f n < n) × T (f (pick f n))
 unfolding pick Right
 pick-right f zero k h t = absurd (omega arith)

@@ -18,6 +18,7 @@ some-elsewhere k zero h = absurd (h refl)
 some-elsewhere k (suc a) h = refl
 
 module _ (k : Arithmetic) (laws : Lawful k) where
+  -- the order is at least 16
   pub zero-below : 0 < k .order
   zero-below = omega (arith, laws .order-low)
 
@@ -28,9 +29,11 @@ module _ (k : Arithmetic) (laws : Lawful k) where
   pub code : (a : ℕ) → a % k .order < k .order
   code a = mod-lt a zero-below
 
+  -- zero is neutral on the right too
   pub add-zero : (a : ℕ) → a < k .order → k .add a 0 ≡ a
   add-zero a l = laws .add-comm a 0 l zero-below ∙ laws .zero-add a l
 
+  -- one is neutral on the right too
   pub mul-one : (a : ℕ) → a < k .order → k .mul a 1 ≡ a
   mul-one a l = laws .mul-comm a 1 l one-below ∙ laws .one-mul a l
 

@@ -9,21 +9,25 @@ use lib.Bits.{bitXor, xor-assoc, xor-comm, xor-self, xor-zero-r, xor-block, xor-
 
 -- ---- the exclusive or
 
+-- the inner two of four change places
 pub exchange : (a b c d : ℕ) → bitXor (bitXor a b) (bitXor c d) ≡ bitXor (bitXor a c) (bitXor b d)
 exchange a b c d =
     xor-assoc a b (bitXor c d)
     ∙ ap (bitXor a) (sym (xor-assoc b c d) ∙ ap (λ (x : ℕ). bitXor x d) (xor-comm b c) ∙ xor-assoc c b d)
     ∙ sym (xor-assoc a c (bitXor b d))
 
+-- an exclusive or taken twice
 pub cancel : (a b : ℕ) → bitXor (bitXor a b) b ≡ a
 cancel a b = xor-assoc a b b ∙ ap (bitXor a) (xor-self b) ∙ xor-zero-r a
 
+-- shifting keeps it
 pub xor-shl : (k a b : ℕ) → bitXor a b * 2 ^ k ≡ bitXor (a * 2 ^ k) (b * 2 ^ k)
 xor-shl k a b =
     sym (add-zero (bitXor a b * 2 ^ k))
     ∙ sym (xor-block k a b 0 0 (pow-pos k) (pow-pos k))
     ∙ ap₂ bitXor (add-zero (a * 2 ^ k)) (add-zero (b * 2 ^ k))
 
+-- and so does doubling
 pub xor-twice : (a b : ℕ) → 2 * bitXor a b ≡ bitXor (2 * a) (2 * b)
 xor-twice a b = mul-comm 2 (bitXor a b) ∙ xor-shl 1 a b ∙ ap₂ bitXor (mul-comm a 2) (mul-comm b 2)
 
@@ -33,6 +37,7 @@ bit-right zero h a b = simp zero-mul
 bit-right (suc zero) h a b = simp one-mul
 bit-right (suc (suc r)) h a b = absurd (omega arith)
 
+-- one bit, the exclusive or of two, times a number
 pub bit-left : (r s : ℕ) → r < 2 → s < 2 → (a : ℕ) → bitXor r s * a ≡ bitXor (r * a) (s * a)
 bit-left zero s h k a = simp zero-mul
 bit-left (suc zero) zero h k a = simp (zero-mul, one-mul, xor-zero-r)
@@ -42,12 +47,15 @@ bit-left (suc (suc r)) s h k a = absurd (omega arith)
 
 -- ---- maps that keep it
 
+-- f keeps the exclusive or
 abbrev pub Linear : (ℕ → ℕ) → Type 0
 Linear f = (a b : ℕ) → f (bitXor a b) ≡ bitXor (f a) (f b)
 
+-- one such map after another
 pub after : (f g : ℕ → ℕ) → Linear f → Linear g → Linear (λ a. f (g a))
 after f g F G a b = ap f (G a b) ∙ F (g a) (g b)
 
+-- 0 is the exclusive or of 0 and 0
 pub at-zero : (f : ℕ → ℕ) → Linear f → f 0 ≡ 0
 at-zero f F =
     sym (cancel (f 0) (f 0)) ∙ ap (λ (x : ℕ). bitXor x (f 0)) (sym (F 0 0)) ∙ xor-self (f 0)

@@ -11,13 +11,15 @@ use Rattle.field.specs.Polynomials.{carryless, remainder, mul-mod}
 use Rattle.field.proofs.Linear.{Linear, Bilinear, exchange, xor-twice, bit-left, bit-right, after, agree, agree₂}
 use Rattle.field.proofs.Checks.{all, all-at}
 
+-- halving drops the lowest bit of both
 half-xor : Linear (λ a. a / 2)
 half-xor a b = xor-shr a b 1
 
+-- the lowest bit of both
 bit-xor : Linear (λ a. a % 2)
 bit-xor a b = xor-mod a b 1
 
--- a map, plus a number times one bit of what another map gives
+-- each shifted copy of a keeps the exclusive or
 carryless-left : (n b : ℕ) → Linear (λ a. carryless n a b)
 unfolding carryless
 carryless-left zero b a c = refl
@@ -25,6 +27,7 @@ carryless-left (suc n) b a c =
     ap₂ bitXor (bit-right (b % 2) (omega arith) a c) (ap (λ (x : ℕ). carryless n x (b / 2)) (xor-twice a c) ∙ carryless-left n (b / 2) (2 * a) (2 * c))
     ∙ exchange (b % 2 * a) (b % 2 * c) (carryless n (2 * a) (b / 2)) (carryless n (2 * c) (b / 2))
 
+-- each bit of b does
 pub carryless-right : (n a : ℕ) → Linear (carryless n a)
 unfolding carryless
 carryless-right zero a b c = refl
@@ -38,6 +41,7 @@ carryless-right (suc n) a b c =
 step : ℕ → ℕ → ℕ → ℕ
 step k d x = bitXor x (x / 2 ^ k % 2 * d)
 
+-- the bit that is taken away keeps it
 step-linear : (k d : ℕ) → Linear (step k d)
 unfolding step
 step-linear k d a b =
@@ -47,6 +51,7 @@ step-linear k d a b =
     ∙ bit-left (a / 2 ^ k % 2) (b / 2 ^ k % 2) (omega arith) (omega arith) d)
     ∙ exchange a b (a / 2 ^ k % 2 * d) (b / 2 ^ k % 2 * d)
 
+-- and so do all steps, one after the other
 remainder-linear : (w m n : ℕ) → Linear (remainder w m n)
 unfolding remainder step
 remainder-linear w m zero a b = refl
@@ -54,6 +59,7 @@ remainder-linear w m (suc n) a b =
     ap (remainder w m n) (step-linear (n + w) (m * 2 ^ n) a b)
     ∙ remainder-linear w m n (step (n + w) (m * 2 ^ n) a) (step (n + w) (m * 2 ^ n) b)
 
+-- the product is such a map in each argument
 pub mul-bilinear : (w m : ℕ) → Bilinear (mul-mod w m)
 unfolding mul-mod
 mul-bilinear w m = record {
@@ -69,6 +75,7 @@ pub record Basis (w m : ℕ) : Type 0 where
   pub assoc : T (all (λ i. all (λ j. all (λ k. eqb (mul-mod w m (mul-mod w m (2 ^ i) (2 ^ j)) (2 ^ k)) (mul-mod w m (2 ^ i) (mul-mod w m (2 ^ j) (2 ^ k)))) w) w) w)
 
 module _ (w m : ℕ) (basis : Basis w m) where
+  -- cutting to w bits changes nothing on the powers of x, so it changes nothing
   mul-below : (a b : ℕ) → a < 2 ^ w → b < 2 ^ w → mul-mod w m a b < 2 ^ w
   mul-below a b p q =
       subst (λ (x : ℕ). x < 2 ^ w)
@@ -81,15 +88,18 @@ module _ (w m : ℕ) (basis : Basis w m) where
       w (λ i j p q. sym (mod-eq-of-lt (ltb→lt _ _ (all-at _ w (all-at _ w (basis .below) i p) j q)))) a b p q))
       (mod-lt (mul-mod w m a b) (pow-pos w))
 
+  -- both orders agree on the powers of x
   mul-comm : (a b : ℕ) → a < 2 ^ w → b < 2 ^ w → mul-mod w m a b ≡ mul-mod w m b a
   mul-comm =
       agree₂ (mul-mod w m) (λ a b. mul-mod w m b a) (mul-bilinear w m)
       (record { left = mul-bilinear w m .right; right = mul-bilinear w m .left })
       w (λ i j p q. eqb→eq _ _ (all-at _ w (all-at _ w (basis .comm) i p) j q))
 
+  -- one times a agrees with a on the powers of x
   one-mul : (a : ℕ) → a < 2 ^ w → mul-mod w m 1 a ≡ a
   one-mul = agree (mul-mod w m 1) (λ a. a) (mul-bilinear w m .right 1) (λ a b. refl) w (λ i p. eqb→eq _ _ (all-at _ w (basis .one) i p))
 
+  -- both groupings agree on the powers of x, in each of three arguments
   mul-assoc : (a b c : ℕ) → a < 2 ^ w → b < 2 ^ w → c < 2 ^ w → mul-mod w m (mul-mod w m a b) c ≡ mul-mod w m a (mul-mod w m b c)
   mul-assoc a b c p q r =
       let mul : ℕ → ℕ → ℕ = mul-mod w m in
@@ -117,5 +127,6 @@ pub record Products (w m : ℕ) : Type 0 where
   pub one : (a : ℕ) → a < 2 ^ w → mul-mod w m 1 a ≡ a
   pub assoc : (a b c : ℕ) → a < 2 ^ w → b < 2 ^ w → c < 2 ^ w → mul-mod w m (mul-mod w m a b) c ≡ mul-mod w m a (mul-mod w m b c)
 
+-- the four laws, from their tests
 pub products : (w m : ℕ) → Basis w m → Products w m
 products w m basis = record { below = mul-below w m basis; comm = mul-comm w m basis; one = one-mul w m basis; assoc = mul-assoc w m basis }

@@ -29,6 +29,7 @@ single (suc n) a t l =
     ap₂ bitXor (ap (λ (x : ℕ). x * a) (shifted-even t n) ∙ zero-mul a) (ap (carryless (suc n) (2 * a)) (shifted-half t n) ∙ single n (2 * a) t l)
     ∙ ap (λ (x : ℕ). t * x) (ap (λ (x : ℕ). x * 2 ^ n) (mul-comm 2 a) ∙ mul-assoc a 2 (2 ^ n) ∙ ap (λ (x : ℕ). a * x) (sym (pow-succ' 2 n)))
 
+-- the coefficient n of b and those below it, apart
 longer : (n a t k : ℕ) → t < 2 → k < 2 ^ n → carryless (suc n) a (t * 2 ^ n + k) ≡ bitXor (carryless n a k) (t * (a * 2 ^ n))
 longer n a t k l h =
     ap (carryless (suc n) a) (sym (xor-shifted t n k h))
@@ -50,6 +51,7 @@ stepped n m x r t l c =
       ),
     )
 
+-- by induction on the steps: each takes away a multiple
 pub divides : (w m n x : ℕ) → Congruent n m x (remainder w m n x)
 unfolding remainder carryless
 divides w m zero x = (0, (pow-pos 0, sym (xor-zero-r x)))
@@ -57,6 +59,7 @@ divides w m (suc n) x =
     let t = x / 2 ^ (n + w) % 2 in
     stepped n m x (remainder w m (suc n) x) t (omega arith) (divides w m n (bitXor x (t * (m * 2 ^ n))))
 
+-- the product is reduced from the whole product, and below the order by its tests
 pub is-remainder : (w m : ℕ) → Products w m → IsRemainder w m
 unfolding mul-mod
 is-remainder w m mul a b p q = (mul .below a b p q, divides w m w (carryless w a b))

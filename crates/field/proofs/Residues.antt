@@ -9,6 +9,7 @@ use Rattle.field.specs.Arithmetic.{Lawful}
 use Rattle.field.specs.Modular.{times-mod, modular}
 use Rattle.field.proofs.Inverse as inverse
 
+-- a factor may be reduced first
 pub remainder-mul : (q a b : ℕ) → a % q * b % q ≡ a * b % q
 remainder-mul q a b =
     sym
@@ -16,6 +17,7 @@ remainder-mul q a b =
     ∙ ap (λ (x : ℕ). x % q) (add-mul (q * (a / q)) (a % q) b ∙ ap (λ (x : ℕ). x + a % q * b) (mul-assoc q (a / q) b))
     ∙ mul-add-mod-self-left q (a / q * b) (a % q * b))
 
+-- the other factor too
 pub mul-remainder : (q a b : ℕ) → a * (b % q) % q ≡ a * b % q
 mul-remainder q a b = ap (λ (x : ℕ). x % q) (mul-comm a (b % q)) ∙ remainder-mul q b a ∙ ap (λ (x : ℕ). x % q) (mul-comm b a)
 
@@ -38,6 +40,7 @@ step q a b f e =
     ∙ remainder-mul q a (q - q / a)
     ∙ divided q a
 
+-- no number between divides q
 abbrev pub Prime : ℕ → Type 0
 Prime q = (d : ℕ) → 1 < d → d < q → q % d ≢ 0
 
@@ -45,6 +48,7 @@ Prime q = (d : ℕ) → 1 < d → d < q → q % d ≢ 0
 abbrev pub Partner : ℕ → ℕ → Type 0
 Partner q a = (b : ℕ) × ((b < q) × (a * b % q ≡ 1))
 
+-- a partner of q % a gives one of a, by one division
 lifted : (q a : ℕ) → 0 < q → Partner q (q % a) → Partner q a
 lifted q a pos r = (
   (q - q / a) * r .0 % q,
@@ -60,6 +64,7 @@ lifted q a pos r = (
 )
 
 module _ (q : ℕ) (many : 1 < q) (prime : Prime q) where
+  -- by induction: each remainder is smaller, and 1 is its own partner
   partner-to : (n a : ℕ) → a ≤ n → a < q → a ≢ 0 → Partner q a
   partner-to zero a l p h = absurd (h (omega arith))
   partner-to (suc n) a l p h = go (ℕ-discrete a 1) (partner-to n (q % a))
@@ -70,18 +75,23 @@ module _ (q : ℕ) (many : 1 < q) (prime : Prime q) where
           let small : q % a < a = mod-lt q (omega arith) in
           lifted q a (omega arith) (rest (omega arith) (omega arith) (prime a (omega arith) p))
 
+  -- so each code but 0 has a partner
   pub partner : (a : ℕ) → a < q → a ≢ 0 → Partner q a
   partner a = partner-to a a (omega arith)
 
+  -- reduce once at the end, either way
   times-assoc : (a b c : ℕ) → a * b % q * c % q ≡ a * (b * c % q) % q
   times-assoc a b c = remainder-mul q (a * b) c ∙ ap (λ (x : ℕ). x % q) (mul-assoc a b c) ∙ sym (mul-remainder q a (b * c))
 
+  -- products of numbers commute
   times-comm : (a b : ℕ) → a * b % q ≡ b * a % q
   times-comm a b = ap (λ (x : ℕ). x % q) (mul-comm a b)
 
+  -- a code is its own remainder
   one-times : (a : ℕ) → a < q → 1 * a % q ≡ a
   one-times a l = ap (λ (x : ℕ). x % q) (one-mul a) ∙ mod-eq-of-lt l
 
+  -- the laws of a field, from those of whole numbers
   pub laws : 16 ≤ q → q ≤ 65537 → Lawful (modular q)
   laws low high = record {
     order-low = low;

@@ -16,10 +16,12 @@ use Rattle.plan.proofs.Rows.{count-more, row-codes, moved-follows}
 abbrev pub checks-to : Arithmetic → Coefficients → List ℕ → ℕ → List ℕ
 checks-to k x v i = map (λ i. check-on k x i v) (count-from 0 i)
 
+-- none below number 0
 pub no-checks : (k : Arithmetic) (x : Coefficients) (v : List ℕ) → [] ≡ checks-to k x v 0
 unfolding count-from
 no-checks k x v = refl
 
+-- those below m are all
 pub all-checks : (k : Arithmetic) (x : Coefficients) (v : List ℕ) → checks-to k x v (x .m) ≡ checks-on k x v
 unfolding checks-on
 all-checks k x v = refl

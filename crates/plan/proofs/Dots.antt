@@ -17,14 +17,17 @@ use Rattle.plan.specs.Rows.{dot, Vector, codes}
 abbrev pub Codes : Arithmetic → List ℕ → Type 0
 Codes k r = (j : ℕ) → getD r j 0 < k .order
 
+-- one column
 dot-cons : (k : Arithmetic) (c v : ℕ) (cs vs : List ℕ) → dot k (c ∷ cs) (v ∷ vs) ≡ k .add (k .mul c v) (dot k cs vs)
 unfolding dot
 dot-cons k c v cs vs = refl
 
+-- an empty row gives zero
 none : (k : Arithmetic) (vs : List ℕ) → dot k [] vs ≡ 0
 unfolding dot
 none k vs = refl
 
+-- and so does any row on no words
 dot-none : (k : Arithmetic) (rs : List ℕ) → dot k rs [] ≡ 0
 unfolding dot
 dot-none k [] = refl
@@ -35,26 +38,32 @@ dot-nil : (k : Arithmetic) (rs vs : List ℕ) → (rs ≡ []) ⊎ (vs ≡ []) �
 dot-nil k rs vs = ⊎-elim (λ e. ap (λ y. dot k y vs) e ∙ none k vs) (λ e. ap (dot k rs) e ∙ dot-none k rs)
 
 module _ (k : Arithmetic) (l : Lawful k) where
+  -- past the end the default 0 is a code
   codes-known : (v : List ℕ) (n : ℕ) → length v ≡ n → ((j : ℕ) → j < n → getD v j 0 < k .order) → Codes k v
   codes-known v n e h j = elim (cases-lt j n) [
     | inl d ↦ h j d
     | inr d ↦ subst (λ (y : ℕ). y < k .order) (sym (getD-past v j 0 (omega arith))) (zero-below k l)
   ]
 
+  -- a data vector has codes
   pub vector-codes : (n : ℕ) (v : List ℕ) → Vector k n v → Codes k v
   vector-codes n v h = codes-known v n (h .long) (h .below)
 
+  -- a code is the remainder of its word
   pub code-at : (ws : List ℕ) (j : ℕ) → j < length ws → getD (codes k ws) j 0 ≡ getD ws j 0 % k .order
   code-at ws j d = getD-map (λ w. w % k .order) ws j 0 0 d
 
+  -- there are as many codes as words
   pub codes-length : (ws : List ℕ) → length (codes k ws) ≡ length ws
   codes-length ws = length-map ws (λ w. w % k .order)
 
+  -- remainders are codes
   pub codes-codes : (ws : List ℕ) → Codes k (codes k ws)
   codes-codes ws =
       codes-known (codes k ws) (length ws) (codes-length ws)
       (λ j d. subst (λ (y : ℕ). y < k .order) (sym (code-at ws j d)) (code k l (getD ws j 0)))
 
+  -- sums of products of codes are codes
   pub dot-below : (r v : List ℕ) → Codes k r → Codes k v → dot k r v < k .order
   unfolding dot
   dot-below [] v hr hv = zero-below k l

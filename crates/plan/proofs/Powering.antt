@@ -18,10 +18,12 @@ use Rattle.plan.specs.Powers.{power, powers}
 pub within : (i j m n : ℕ) → i < m → j < n → (ltb i m && ltb j n) ≡ true
 within i j m n p q = ap (λ b. b && ltb j n) (lt-ltb i m p) ∙ lt-ltb j n q
 
+-- a test that fails, whatever the other says
 and-false : (b : Bool) → (b && false) ≡ false
 and-false true = refl
 and-false false = refl
 
+-- one of them fails outside the range
 pub without : (i j m n : ℕ) → (m ≤ i) ⊎ (n ≤ j) → (ltb i m && ltb j n) ≡ false
 without i j m n =
     ⊎-elim (λ p. ap (λ b. b && ltb j n) (le-ltb i m p)) (λ q. ap (λ b. ltb i m && b) (le-ltb j n q) ∙ and-false (ltb i m))
@@ -45,6 +47,7 @@ module _ (k : Arithmetic) (l : Lawful k) where
   pub base-below : (j n : ℕ) → j < n → n ≤ most-data → j + 1 < k .order
   base-below j n h high = omega (arith, l .order-low)
 
+  -- a power of a code, or zero
   coefficient-below : (i j n m : ℕ) → n ≤ most-data → powers k n m .f i j < k .order
   coefficient-below i j n m high = elim (cases-lt j n) [
     | inl d ↦ elim (cases-bool (ltb i m && ltb j n)) [
@@ -54,6 +57,7 @@ module _ (k : Arithmetic) (l : Lawful k) where
     | inr d ↦ subst (λ (y : ℕ). y < k .order) (sym (cond-false (ltb i m && ltb j n) _ 0 (without i j m n (inr d)))) (zero-below k l)
   ]
 
+  -- the bounds are those of the plan
   pub powers-fitting : (n m : ℕ) → 1 ≤ n → n ≤ most-data → 1 ≤ m → m ≤ most-checks → Fitting k (powers k n m)
   powers-fitting n m n-low n-high m-low m-high = record {
     data-low = n-low;

@@ -17,6 +17,7 @@ use Rattle.plan.specs.Coefficients.{Coefficients, Fitting}
 use Rattle.plan.specs.Rows.{count-from, entry, row, dot, Vector, check-on, moved, Follows}
 use Rattle.plan.proofs.Dots.{Codes, vector-codes, dot-set}
 
+-- the last of the numbers from i on
 count-last : (i n : ℕ) → count-from i (suc n) ≡ count-from i n ++ (i + n) ∷ []
 unfolding count-from
 count-last i zero = ap (λ y. y ∷ []) (sym (add-zero i))
@@ -28,29 +29,35 @@ count-last i (suc n) =
 pub count-more : (n : ℕ) → count-from 0 (n + 1) ≡ count-from 0 n ++ n ∷ []
 count-more n = ap (count-from 0) (add-one n) ∙ count-last 0 n ∙ ap (λ y. count-from 0 n ++ y ∷ []) (zero-add n)
 
+-- number j from i on is i + j
 getD-count-from : (f : ℕ → ℕ) (i n j : ℕ) → j < n → getD (map f (count-from i n)) j 0 ≡ f (i + j)
 unfolding count-from
 getD-count-from f i zero j h = absurd (let z : ⊥ = omega arith in z)
 getD-count-from f i (suc n) zero h = ap f (omega arith)
 getD-count-from f i (suc n) (suc j) h = getD-count-from f (suc i) n j (omega arith) ∙ ap f (omega arith)
 
+-- and there are n
 length-count-from : (f : ℕ → ℕ) (i n : ℕ) → length (map f (count-from i n)) ≡ n
 unfolding count-from
 length-count-from f i zero = refl
 length-count-from f i (suc n) = ap suc (length-count-from f (suc i) n)
 
+-- a row has a column for each data bay
 pub row-length : (x : Coefficients) (b : ℕ) → length (row x b) ≡ x .n
 unfolding row
 row-length x b = length-count-from (entry x b) 0 (x .n)
 
+-- its columns are the entries
 pub row-at : (x : Coefficients) (b j : ℕ) → j < x .n → getD (row x b) j 0 ≡ entry x b j
 unfolding row
 row-at x b j h = getD-count-from (entry x b) 0 (x .n) j h ∙ ap (entry x b) (omega arith)
 
+-- the row of a data bay has one in its own column
 pub entry-data : (x : Coefficients) (b j : ℕ) → b < x .n → entry x b j ≡ cond (eqb b j) 1 0
 unfolding entry
 entry-data x b j h = cond-true (ltb b (x .n)) _ _ (lt-ltb b (x .n) h)
 
+-- the row of a check bay has its coefficients
 pub entry-check : (x : Coefficients) (i j : ℕ) → entry x (x .n + i) j ≡ x .f i j
 unfolding entry
 entry-check x i j =
@@ -62,6 +69,7 @@ pub check-at : (x : Coefficients) (i j : ℕ) → j < x .n → getD (row x (x .n
 check-at x i j d = row-at x (x .n + i) j d ∙ entry-check x i j
 
 module _ (k : Arithmetic) (l : Lawful k) (x : Coefficients) (h : Fitting k x) where
+  -- zero, one or a coefficient
   entry-code : (b j : ℕ) → entry x b j < k .order
   entry-code b j = elim (cases-lt b (x .n)) [
     | inl d ↦ subst (λ (y : ℕ). y < k .order) (sym (entry-data x b j d)) (elim (cases-bool (eqb b j)) [

@@ -42,8 +42,9 @@ fn account(rt: &LibcRuntime) -> Result<Tally, AnyError> {
         lines: 0,
         refused: 0,
     };
+    let mut line = Vec::new(rt.alloc());
     for number in 1..u64::MAX {
-        let mut line = Vec::new(rt.alloc());
+        line.clear();
         if input.read_until(b'\n', &mut line)? == 0 {
             break;
         }

@@ -24,6 +24,7 @@ pub large-next : (limit i : ℕ) (ws : List ℕ) → i < length ws → getD ws i
 large-next limit i ws d h =
     ap (too-large limit) (drop-more ws i 0 d) ∙ ap (λ b. b || too-large limit (drop (i + 1) ws)) (lt-leb limit (getD ws i 0) h)
 
+-- after the last word none was too large
 pub large-end : (limit i : ℕ) (ws : List ℕ) → length ws ≤ i → too-large limit (drop i ws) ≡ false
 large-end limit i ws h = ap (too-large limit) (drop-all i ws h)
 
@@ -45,6 +46,7 @@ passed : (fails : Bool) (e : Refusal) (rest : Option Refusal) → cond fails (So
 passed true e rest h = let z : _≡_ {A = ℕ} 0 1 = cc in absurd (let y : ⊥ = omega arith in y)
 passed false e rest h = (refl, h)
 
+-- a test whose opposite fails
 not-true : (b : Bool) → not b ≡ false → b ≡ true
 not-true true e = refl
 not-true false e = absurd (both-ways true e refl)
@@ -55,6 +57,7 @@ pub record Fit (bays places limit place : ℕ) (words : List ℕ) : Type 0 where
   pub count : length words ≡ bays
   pub low : (j : ℕ) → j < length words → getD words j 0 < limit
 
+-- each test that it passed, read as a fact
 pub lay-fit : (bays places limit place : ℕ) (words : List ℕ) → lay-refusal bays places limit place words ≡ None → Fit bays places limit place words
 lay-fit bays places limit place words e =
     let first = passed (leb places place) _ _ e in
