@@ -33,7 +33,7 @@ use Rattle.command.specs.declared.command.FieldName.the-variants.{Nibble, Byte,
 use Rattle.archive.specs.Outcome.{Outcome, Carried}
 use Rattle.archive.specs.Stripes.{Held, Shown, held, shown, laid, rewritten, comparing, Coded, Sound, laying-if, laying, writing-over, writing-if, writing}
 use Rattle.archive.specs.Fields.{arithmetic-of}
-use Rattle.archive.specs.Contents.{Kept, plan-of, laying-in, writing-in, description-fault, fresh, AllCoded}
+use Rattle.archive.specs.Contents.{Kept, plan-of, laying-in, writing-in, places-fault, description-fault, fresh, AllCoded}
 use Rattle.archive.specs.declared.fault.Fault.{Fault}
 use Rattle.archive.specs.declared.fault.Fault.the-variants.{Plan}
 use Rattle.archive.specs.declared.stripe.Stripe.{Stripe}
@@ -186,13 +186,12 @@ range-fitting k l n m e =
 -- so an archive that was described is coded
 pub fresh-coded : (f : FieldName) (n m places : ℕ) → description-fault n m places ≡ None → AllCoded (Some (fresh f n m places))
 fresh-coded f n m places e =
-    let k = arithmetic-of f in (
-      elim (cases-bool (in-range n m)) [
-        | inl yes-range ↦ range-fitting k (lawful-of f) n m yes-range
-        | inr no-range ↦
-            let refused : description-fault n m places ≡ Some (Plan BaysOutOfRange) = cond-false (in-range n m) _ _ no-range in
-            let z : _≡_ {A = ℕ} 0 1 = cc in
-            absurd (let y : ⊥ = omega arith in y)
-      ],
-      none-sound k (powers k n m) places,
-    )
+    let k = arithmetic-of f in
+    let range : in-range n m ≡ true = elim (cases-bool (in-range n m)) [
+      | inl yes-range ↦ yes-range
+      | inr no-range ↦
+          let refused : description-fault n m places ≡ Some (Plan BaysOutOfRange) = ap (places-fault places) (cond-false (in-range n m) _ _ no-range) in
+          let z : _≡_ {A = ℕ} 0 1 = cc in
+          absurd (let y : ⊥ = omega arith in y)
+    ] in
+    (range-fitting k (lawful-of f) n m range, none-sound k (powers k n m) places)

@@ -13,9 +13,9 @@ use Rattle.std.specs.declared.result.Result.{Result}
 use Rattle.std.specs.declared.result.Result.the-variants.{Ok, Err}
 use Rattle.plan.specs.Coefficients.{Coefficients, Fitting}
 use Rattle.plan.specs.Powers.{powers}
-use Rattle.plan.specs.Refusals.{in-range}
+use Rattle.plan.specs.Refusals.{bays-refusal}
 use Rattle.plan.specs.declared.powers_plan.Powers.{Powers}
-use Rattle.plan.specs.declared.refusal.Refusal.the-variants.{BaysOutOfRange}
+use Rattle.plan.specs.declared.refusal.Refusal.{Refusal}
 use Rattle.command.specs.declared.command.FieldName.{FieldName}
 use Rattle.command.specs.declared.command.FieldName.the-variants as name
 use Rattle.archive.specs.Fields.{arithmetic-of}
@@ -75,9 +75,12 @@ abbrev pub enough-places : ℕ → Bool
 enough-places places = leb 1 places && leb places 65536
 
 -- why an archive is not described: its plan is refused, then its number of places
+abbrev pub places-fault : ℕ → Option Refusal → Option Fault
+places-fault places (Some e) = Some (Plan e)
+places-fault places None = cond (enough-places places) None (Some PlacesOutOfRange)
+
 abbrev pub description-fault : ℕ → ℕ → ℕ → Option Fault
-description-fault n m places =
-    cond (in-range n m) (cond (enough-places places) None (Some PlacesOutOfRange)) (Some (Plan BaysOutOfRange))
+description-fault n m places = places-fault places (bays-refusal n m)
 
 -- an archive with nothing laid
 abbrev pub fresh : FieldName → ℕ → ℕ → ℕ → Kept

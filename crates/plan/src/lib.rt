@@ -6,6 +6,8 @@ mod refusal;
 
 pub use crate::checks::check_word;
 pub use crate::checks::moved_word;
+pub use crate::layout::MOST_CHECK_BAYS;
+pub use crate::layout::MOST_DATA_BAYS;
 pub use crate::layout::Plan;
 pub use crate::powers_plan::Powers;
 pub use crate::powers_plan::PowersPlan;

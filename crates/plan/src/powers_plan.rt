@@ -1,10 +1,12 @@
 ghost use mathlib.Core.Path.{_≡_};
-ghost use mathlib.Core.Bool.{true, false};
 ghost use Prim.Native.Nat.{_<_, _≤_};
 ghost use Rattle.std.specs.Results.{Cases};
+ghost use Rattle.std.specs.declared.option.Option.the-variants.{Some, None};
 ghost use Rattle.plan.specs.Bounds.{most-data, most-checks};
 ghost use Rattle.plan.specs.Powers.{power, powers};
-ghost use Rattle.plan.specs.Refusals.{in-range};
+ghost use Rattle.plan.specs.Refusals.{bays-refusal};
+use crate::layout::MOST_CHECK_BAYS;
+use crate::layout::MOST_DATA_BAYS;
 use crate::layout::Plan;
 use crate::refusal::Refusal;
 use field::Field;
@@ -26,9 +28,12 @@ impl<F> Copy for Powers<F> {}
 impl<F: Field> Powers<F> {
     // Refused by 14 where there are not 1 to 15 data bays and 1 to 8 check bays.
     pub fn new(data_bays: usize, check_bays: usize) -> Result<Powers<F>, Refusal>
-        ensures { λ r. ⌜ Cases r (λ p. (in-range «data_bays» «check_bays» ≡ true) × (p .«data_bays» ≡ «data_bays») × (p .«check_bays» ≡ «check_bays»)) (λ _. in-range «data_bays» «check_bays» ≡ false) ⌝ }
+        ensures { λ r. ⌜ Cases r (λ p. (bays-refusal «data_bays» «check_bays» ≡ None) × (p .«data_bays» ≡ «data_bays») × (p .«check_bays» ≡ «check_bays»)) (λ e. bays-refusal «data_bays» «check_bays» ≡ Some e) ⌝ }
     {
-        if data_bays < 1 || data_bays > 15 || check_bays < 1 || check_bays > 8 {
+        if data_bays < 1 || data_bays > MOST_DATA_BAYS {
+            return Err(Refusal::BaysOutOfRange);
+        }
+        if check_bays < 1 || check_bays > MOST_CHECK_BAYS {
             return Err(Refusal::BaysOutOfRange);
         }
         Ok(Powers {
