@@ -34,8 +34,7 @@ binary w m = record {
 abbrev pub Congruent : ℕ → ℕ → ℕ → ℕ → Type 0
 Congruent n m x r = (k : ℕ) × ((k < 2 ^ n) × (x ≡ bitXor r (carryless n m k)))
 
--- The product of two codes has at most w coefficients, and differs from their whole product by a multiple of m:
--- so it is the remainder, however that is worked out.
+-- The product of two codes has at most w coefficients, and differs from their whole product by a multiple of m.
 abbrev pub IsRemainder : ℕ → ℕ → Type 0
 IsRemainder w m =
     (a b : ℕ) → a < 2 ^ w → b < 2 ^ w → (mul-mod w m a b < 2 ^ w) × Congruent w m (carryless w a b) (mul-mod w m a b)
