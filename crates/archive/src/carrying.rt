@@ -45,13 +45,7 @@ impl Archive {
                 check_bays,
                 places,
             } => {
-                self.contents = Contents::described(
-                    heap,
-                    field,
-                    data_bays as usize,
-                    check_bays as usize,
-                    places as usize,
-                )?;
+                self.contents = Contents::described(heap, field, data_bays, check_bays, places)?;
                 Ok(Report::Described {
                     field,
                     data_bays,

@@ -39,12 +39,17 @@ impl Contents {
     pub fn described(
         heap: Global,
         field: FieldName,
-        data_bays: usize,
-        check_bays: usize,
-        places: usize,
+        data_bays: u32,
+        check_bays: u32,
+        places: u32,
     ) -> Result<Contents, Fault>
         ensures { λ r. ⌜ Made field «data_bays» «check_bays» places r ⌝ }
     {
+        let (data_bays, check_bays, places) = (
+            data_bays as usize,
+            check_bays as usize,
+            places as usize,
+        );
         match field {
             FieldName::Nibble => Ok(Contents::Nibble(
                 new_stripes(heap, data_bays, check_bays, places)?,

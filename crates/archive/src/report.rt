@@ -83,6 +83,16 @@ impl Rewrite {
     }
 }
 
+impl fmt::Display for Rewrite as RewriteDisplay {
+    fn fmt<W: fmt::Write>(&self, f: &mut fmt::Formatter<W>) -> fmt::Result {
+        let before = Row(&self.before);
+        let after = Row(&self.after);
+        let afresh = Row(&self.afresh);
+        let verdict = self.verdict();
+        write!(f, "checks {before} to {after}, afresh {afresh}: {verdict}")
+    }
+}
+
 pub impl fmt::Display for Report as ReportDisplay {
     fn fmt<W: fmt::Write>(&self, f: &mut fmt::Formatter<W>) -> fmt::Result {
         match self {
@@ -111,13 +121,9 @@ pub impl fmt::Display for Report as ReportDisplay {
                 rewrite,
             } => {
                 let old = rewrite.old;
-                let before = Row(&rewrite.before);
-                let after = Row(&rewrite.after);
-                let afresh = Row(&rewrite.afresh);
-                let verdict = rewrite.verdict();
                 write!(
                     f,
-                    "place {place}: bay {bay} from {old} to {word}, checks {before} to {after}, afresh {afresh}: {verdict}"
+                    "place {place}: bay {bay} from {old} to {word}, {rewrite}"
                 )
             }
         }

@@ -6,7 +6,7 @@ use Rattle.std.specs.declared.option.Option.the-variants.{Some, None}
 use Rattle.std.specs.declared.result.Result.the-variants.{Ok, Err}
 use Rattle.command.specs.Reading.{archive, lay, write, reading}
 use Rattle.command.specs.declared.command.FieldName.the-variants.{Byte}
-use Rattle.command.specs.declared.command.Fault.the-variants.{UnknownCommand, UnknownField, UnknownPlan, NotANumber, TokenCount}
+use Rattle.command.specs.declared.command.Fault.the-variants.{UnknownCommand, UnknownPlan, NotANumber, TokenCount}
 
 archives : reading (codes "archive byte powers 4 2 100") ≡ Ok (Some (archive Byte 4 2 100))
 unfolding reading

@@ -5,7 +5,7 @@ use Prim.Native.Nat.{ℕ, _+_, _-_, _^_, _<_, _≤_}
 use native.Mathlib.Omega.{arith}
 use lib.Dec.{eqb→eq}
 use lib.ListN.{getD}
-use lib.Bits.{bitXor, xor-assoc, xor-comm, xor-lt}
+use lib.Bits.{xor-assoc, xor-comm, xor-lt}
 use Rattle.field.specs.Polynomials.{mul-mod, binary}
 use Rattle.field.specs.Powers.{power-of-x, Cyclic}
 use Rattle.field.proofs.Linear.{cancel, at-zero}

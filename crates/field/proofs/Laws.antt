@@ -1,10 +1,9 @@
 -- What follows from the laws of a field, once for all of them.
-use mathlib.Core.Path.{_≡_, refl, sym, ap, ap₂, _∙_}
+use mathlib.Core.Path.{_≡_, refl, sym, ap, _∙_}
 use mathlib.Core.Logic.{_≢_}
 use Prim.Native.Nat.{ℕ, zero, suc, _%_, _<_}
 use native.Mathlib.Nat.{mod-lt}
 use native.Mathlib.Omega.{arith}
-use Rattle.std.specs.declared.option.Option.{Option}
 use Rattle.std.specs.declared.option.Option.the-variants.{None, Some}
 use Rattle.field.specs.Arithmetic.{Arithmetic, Lawful, inverse-of}
 
@@ -36,18 +35,6 @@ module _ (k : Arithmetic) (laws : Lawful k) where
   -- one is neutral on the right too
   pub mul-one : (a : ℕ) → a < k .order → k .mul a 1 ≡ a
   mul-one a l = laws .mul-comm a 1 l one-below ∙ laws .one-mul a l
-
-  -- the inner two of four terms change places
-  pub add-exchange : (a b c d : ℕ) → a < k .order → b < k .order → c < k .order → d < k .order → k .add (k .add a b) (k .add c d) ≡ k .add (k .add a c) (k .add b d)
-  add-exchange a b c d p q r s =
-      laws .add-assoc a b (k .add c d) p q (laws .add-below c d r s)
-      ∙ ap (k .add a)
-      (sym (laws .add-assoc b c d q r s) ∙ ap (λ (x : ℕ). k .add x d) (laws .add-comm b c q r) ∙ laws .add-assoc c b d r q s)
-      ∙ sym (laws .add-assoc a c (k .add b d) p r (laws .add-below b d q s))
-
-  -- b plus the difference of a and b is a
-  pub add-sub : (a b : ℕ) → a < k .order → b < k .order → k .add b (k .sub a b) ≡ a
-  add-sub a b p q = laws .add-comm b (k .sub a b) q (laws .sub-below a b p q) ∙ laws .sub-add a b p q
 
   -- a code has at most one partner whose product with it is one
   pub partner-unique : (a b c : ℕ) → a < k .order → b < k .order → c < k .order → k .mul a b ≡ 1 → k .mul a c ≡ 1 → b ≡ c

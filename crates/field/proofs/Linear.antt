@@ -1,11 +1,11 @@
 -- Maps that keep the exclusive or, and how a few values of one fix it everywhere.
-use mathlib.Core.Path.{_≡_, refl, sym, ap, ap₂, _∙_}
-use Prim.Native.Nat.{ℕ, zero, suc, _+_, _-_, _*_, _/_, _%_, _^_, _<_, _≤_}
+use mathlib.Core.Path.{_≡_, sym, ap, ap₂, _∙_}
+use Prim.Native.Nat.{ℕ, zero, suc, _+_, _-_, _*_, _^_, _<_}
 use native.Mathlib.Nat.{zero-mul, one-mul, mul-comm, add-zero, two-pow-succ}
 use native.Mathlib.Decide.{decLt}
 use native.Mathlib.Omega.{arith}
 use lib.Pow.{pow-pos}
-use lib.Bits.{bitXor, xor-assoc, xor-comm, xor-self, xor-zero-r, xor-block, xor-mod, xor-shr, xor-shifted}
+use lib.Bits.{bitXor, xor-assoc, xor-comm, xor-self, xor-zero-r, xor-block, xor-shifted}
 
 -- ---- the exclusive or
 

@@ -1,5 +1,5 @@
 -- The remainder by a polynomial differs from what was divided by a multiple of it.
-use mathlib.Core.Path.{_≡_, refl, sym, ap, ap₂, _∙_}
+use mathlib.Core.Path.{_≡_, sym, ap, ap₂, _∙_}
 use Prim.Native.Nat.{ℕ, zero, suc, _+_, _*_, _/_, _%_, _^_, _<_}
 use native.Mathlib.Nat.{zero-mul, mul-one, mul-assoc, mul-comm, two-pow-succ, pow-succ'}
 use native.Mathlib.Omega.{arith}

@@ -1,5 +1,5 @@
 -- The laws of the numbers modulo a prime, over the prime.
-use mathlib.Core.Path.{_≡_, refl, sym, ap, subst, _∙_}
+use mathlib.Core.Path.{_≡_, sym, ap, _∙_}
 use mathlib.Core.Logic.{_≢_}
 use Prim.Native.Nat.{ℕ, zero, suc, _+_, _-_, _*_, _/_, _%_, _<_, _≤_}
 use native.Mathlib.Nat.{add-assoc, add-comm, zero-add, mul-assoc, mul-comm, mul-add, add-mul, one-mul, mod-lt, mod-eq-of-lt, mod-add-mod, add-mod-mod, add-mod, add-mod-right, mul-add-mod-self-left, mul-add-mod-self-right, div-add-mod, div-le-self}

@@ -1,5 +1,5 @@
 -- All checks of a place: one more of them, and how they follow the words when each is moved.
-use mathlib.Core.Path.{_≡_, refl, sym, ap, ap₂, subst, _∙_}
+use mathlib.Core.Path.{_≡_, refl, sym, ap, ap₂, _∙_}
 use mathlib.Core.List.{List, [], _∷_, _++_, map}
 use Prim.Native.Nat.{ℕ, zero, suc, _<_, _+_, _%_}
 use native.Mathlib.Nat.{mod-eq-of-lt, add-zero, zero-add}

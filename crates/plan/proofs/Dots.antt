@@ -1,6 +1,6 @@
 -- What the laws of a field give of the sums of products: their bound, one changed column, and the sum one column at a time.
 use mathlib.Core.Path.{_≡_, refl, sym, ap, subst, _∙_}
-use mathlib.Core.List.{List, [], _∷_, map}
+use mathlib.Core.List.{List, [], _∷_}
 use mathlib.Core.Logic.{_⊎_, inl, inr, ⊎-elim}
 use Prim.Native.Nat.{ℕ, zero, suc, _<_, _≤_, _+_, _%_}
 use native.Mathlib.Nat.{mod-eq-of-lt}

@@ -1,29 +1,25 @@
 -- The plan of powers fits: its coefficients are codes, and 0 outside their range.
 use mathlib.Core.Path.{_≡_, refl, sym, ap, subst, _∙_}
-use mathlib.Core.Bool.{Bool, true, false, cond, _&&_}
+use mathlib.Core.Bool.{Bool, true, false, _&&_}
 use mathlib.Core.Logic.{_⊎_, inl, inr, ⊎-elim}
 use Prim.Native.Nat.{ℕ, zero, suc, _+_, _%_, _<_, _≤_}
 use native.Mathlib.Nat.{mod-eq-of-lt}
 use native.Mathlib.Numerals.{add-one}
 use native.Mathlib.Omega.{arith}
 use lib.Dec.{ltb}
-use Rattle.std.proofs.shelf.Tests.{cond-true, cond-false, cases-bool, cases-lt, lt-ltb, le-ltb}
+use Rattle.std.proofs.shelf.Tests.{cond-true, cond-false, cases-bool, cases-lt, le-ltb}
 use Rattle.field.specs.Arithmetic.{Arithmetic, Lawful}
 use Rattle.field.proofs.Laws.{zero-below, one-below}
 use Rattle.plan.specs.Bounds.{most-data, most-checks}
-use Rattle.plan.specs.Coefficients.{Coefficients, Fitting}
+use Rattle.plan.specs.Coefficients.{Fitting}
 use Rattle.plan.specs.Powers.{power, powers}
-
--- both tests, from the order of the numbers
-pub within : (i j m n : ℕ) → i < m → j < n → (ltb i m && ltb j n) ≡ true
-within i j m n p q = ap (λ b. b && ltb j n) (lt-ltb i m p) ∙ lt-ltb j n q
 
 -- a test that fails, whatever the other says
 and-false : (b : Bool) → (b && false) ≡ false
 and-false true = refl
 and-false false = refl
 
--- one of them fails outside the range
+-- one of the two tests fails outside the range
 pub without : (i j m n : ℕ) → (m ≤ i) ⊎ (n ≤ j) → (ltb i m && ltb j n) ≡ false
 without i j m n =
     ⊎-elim (λ p. ap (λ b. b && ltb j n) (le-ltb i m p)) (λ q. ap (λ b. ltb i m && b) (le-ltb j n q) ∙ and-false (ltb i m))

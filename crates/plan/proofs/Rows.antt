@@ -1,20 +1,20 @@
 -- The row of each bay, column by column, and how a moved check follows the words.
 use mathlib.Core.Path.{_≡_, refl, sym, ap, subst, _∙_}
 use mathlib.Core.Bool.{cond}
-use mathlib.Core.List.{List, [], _∷_, _++_, map}
+use mathlib.Core.List.{[], _∷_, _++_, map}
 use mathlib.Core.Logic.{inl, inr}
-use Prim.Native.Nat.{ℕ, zero, suc, _<_, _≤_, _+_, _-_, _%_}
+use Prim.Native.Nat.{ℕ, zero, suc, _<_, _+_, _-_, _%_}
 use native.Mathlib.Nat.{mod-eq-of-lt, add-zero, zero-add}
 use native.Mathlib.Numerals.{add-one}
 use native.Mathlib.Omega.{arith}
-use lib.ListN.{length, getD, set}
+use lib.ListN.{length, getD}
 use lib.Dec.{ltb, eqb}
 use Rattle.std.proofs.shelf.Tests.{cond-true, cond-false, cases-bool, cases-lt, lt-ltb, le-ltb}
 use Rattle.std.proofs.shelf.Lists.{getD-past}
 use Rattle.field.specs.Arithmetic.{Arithmetic, Lawful}
 use Rattle.field.proofs.Laws.{zero-below, one-below, code}
 use Rattle.plan.specs.Coefficients.{Coefficients, Fitting}
-use Rattle.plan.specs.Rows.{count-from, entry, row, dot, Vector, check-on, moved, Follows}
+use Rattle.plan.specs.Rows.{count-from, entry, row, moved, Follows}
 use Rattle.plan.proofs.Dots.{Codes, vector-codes, dot-set}
 
 -- the last of the numbers from i on

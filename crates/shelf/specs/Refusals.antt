@@ -1,5 +1,5 @@
 -- The refusals of the calls of a shelf: the number of each, and when a call is refused whatever the cells hold.
-use mathlib.Core.Bool.{Bool, true, false, cond, not, _||_}
+use mathlib.Core.Bool.{Bool, false, cond, not, _||_}
 use mathlib.Core.List.{List, [], _∷_}
 use Prim.Native.Nat.{ℕ}
 use lib.ListN.{length}

@@ -1,4 +1,4 @@
-use mathlib.Core.Path.{sym, _∙_}
+use mathlib.Core.Path.{_∙_}
 use Rattle.command.proofs.Cuts.{run-more, run-ends, run-all}
 use Rattle.command.proofs.cursor.run_length.Needs as need
 

@@ -1,4 +1,4 @@
-use mathlib.Core.Path.{_≡_, ap, _∙_}
+use mathlib.Core.Path.{ap, _∙_}
 use Prim.Native.Nat.{ℕ, _%_}
 use lib.Bits.{bitXor, xor-mod}
 use Rattle.field.proofs.polynomials.binary_sum.Needs as need

@@ -1,5 +1,4 @@
-use mathlib.Core.Path.{_≡_, sym, _∙_}
-use Prim.Native.Nat.{_%_}
+use mathlib.Core.Path.{sym, _∙_}
 use Rattle.field.proofs.Laws.{code}
 use Rattle.plan.proofs.Rows.{moved-is, moved-follows}
 use Rattle.plan.proofs.checks.moved_word.Needs as need

@@ -6,7 +6,6 @@ use lib.ListN.{set}
 use Rattle.std.specs.Of.Vec.{vec-items}
 use Rattle.std.proofs.shelf.Lists.{set-past}
 use Rattle.plan.specs.Rows.{codes, all-moved}
-use Rattle.archive.specs.Stripes.{Held}
 use Rattle.archive.proofs.Held.{both-held}
 use Rattle.archive.proofs.stripe.Stripe.rewritten.Needs as need
 use Rattle.archive.proofs.stripe.Stripe.rewritten.Needs.{then-bay-len, else-bay-len}

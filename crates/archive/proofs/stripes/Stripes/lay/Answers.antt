@@ -1,4 +1,4 @@
-use mathlib.Core.Path.{_≡_, refl, sym, _∙_}
+use mathlib.Core.Path.{refl, sym, _∙_}
 use Rattle.std.specs.Of.Vec.{vec-items}
 use Rattle.archive.specs.Stripes.{held-at}
 use Rattle.archive.proofs.Calls.{held-length, held-set, lay-refused, lay-done}
