@@ -1,4 +1,8 @@
 ghost use mathlib.Core.Path.{_≡_};
+ghost use lib.Chars.{codes};
+ghost use Rattle.std.specs.Of.Vec.{vec-items};
+ghost use Rattle.std.specs.declared.result.Result.the-variants.{Ok};
+ghost use Rattle.command.specs.Reading.{fieldOf};
 ghost use Rattle.archive.specs.Fields.{arithmetic-of};
 use crate::stripe::Rewrite;
 use crate::stripe::Stripe;
@@ -52,8 +56,10 @@ impl fmt::Display for Row<'_> as RowDisplay {
     }
 }
 
-// The name of a field, as a script has it.
-fn field_name(field: FieldName) -> &'static str {
+// The name of a field: a script that has it there names this field.
+fn field_name(field: FieldName) -> &'static str
+    ensures { λ r. ⌜ fieldOf (now r) ≡ Ok field ⌝ }
+{
     match field {
         FieldName::Nibble => "nibble",
         FieldName::Byte => "byte",
@@ -74,7 +80,9 @@ fn order_of(field: FieldName) -> u32
 
 impl Rewrite {
     // Whether the moved checks are the ones computed afresh.
-    fn verdict(&self) -> &'static str {
+    fn verdict(&self) -> &'static str
+        ensures { λ r. ⌜ (vec-items (now (self .entry) .after) ≡ vec-items (now (self .entry) .afresh) → now r ≡ codes "the same") ⌝ }
+    {
         if self.after == self.afresh {
             "the same"
         } else {
