@@ -3,7 +3,7 @@ use Rattle.std.proofs.Common.{◌≡◌, ℕ, zero, suc, ◌%◌, ◌<◌, Bool,
 use Rattle.std.proofs.lemmas.Bool.{cases_Bool, cases_eq, cases_lt, both_ways, cond-false, leb-true}
 use Rattle.std.proofs.lemmas.List.{set_past}
 use Rattle.field.specs.Arithmetic.{Arithmetic, Lawful}
-use Rattle.field.specs.FieldsLemmas as fields
+use Rattle.field.specs.LawfulFields as fields
 use Rattle.plan.specs.Bounds.{most_data, most_checks}
 use Rattle.plan.specs.Coefficients.{Coefficients, Fitting}
 use Rattle.plan.specs.Powers.{powers}

@@ -1,4 +1,6 @@
 // The archive that the program keeps, and the account that it gives.
+#![tactic(auto)]
+
 mod carrying;
 mod contents;
 mod dispatch;

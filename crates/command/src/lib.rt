@@ -1,4 +1,6 @@
 // Reads one line of a script into the command that it gives, or one line of a drill into its call.
+#![tactic(auto)]
+
 mod arguments;
 mod calls;
 mod command;

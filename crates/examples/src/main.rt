@@ -1,4 +1,6 @@
 // Runs both binary multiplication tables whole against a second computation, and every inverse of the three fields.
+#![tactic(auto)]
+
 ghost use Rattle.std.specs.Prelude.{◌<◌};
 
 use field::{Byte, Count, Field, Nibble};

@@ -5,7 +5,7 @@ use Rattle.field.specs.Arithmetic.{Arithmetic, Lawful}
 use Rattle.field.specs.Examples.{Name, nibble, byte, count, arithmetic_of, Example, product, quotient, inverse, Holds, AllHold}
 use Rattle.field.specs.Checks.{both_left, both_right}
 use Rattle.field.specs.Laws.{inverse_is, quotient_is}
-use Rattle.field.specs.FieldsLemmas as fields
+use Rattle.field.specs.LawfulFields as fields
 
 -- each of the three keeps the laws
 lawful : (k : Name) → Lawful (arithmetic_of k)

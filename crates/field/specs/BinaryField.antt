@@ -8,8 +8,8 @@ use Rattle.field.specs.Powers.{power_of_x, Cyclic}
 use Rattle.field.specs.Linear.{cancel, at_zero}
 use Rattle.field.specs.Products.{Products, mul_bilinear}
 use Rattle.field.specs.Laws as laws
-use Rattle.field.specs.InverseLemmas as inverse
-use Rattle.field.specs.PowersLemmas.{Tables, logs_table, power_below, power-add, power_at, log_below, log_power}
+use Rattle.field.specs.Partners as inverse
+use Rattle.field.specs.PowersOfX.{Tables, logs_table, power_below, power-add, power_at, log_below, log_power}
 
 -- a map that keeps the exclusive or gives 0 at 0
 pub zero_left : (w m b : ℕ) → mul_mod w m 0 b ≡ 0

@@ -5,13 +5,13 @@ pub mod Powers
 pub mod Modular
 pub mod Fields
 pub mod Examples
-pub mod FieldsLemmas
+pub mod LawfulFields
 pub mod Products
 pub mod Linear
 pub mod Checks
-pub mod PowersLemmas
+pub mod PowersOfX
 pub mod BinaryField
 pub mod Laws
-pub mod InverseLemmas
+pub mod Partners
 pub mod Residues
 pub mod Prime

@@ -5,7 +5,7 @@ use Rattle.std.proofs.Math.Nat.{mod-add-mod, add-mod-mod, add-mod, add-mod_right
 use Rattle.std.proofs.Math.Decide.{ℕ_discrete}
 use Rattle.field.specs.Arithmetic.{Lawful}
 use Rattle.field.specs.Modular.{times_mod, modular}
-use Rattle.field.specs.InverseLemmas as inverse
+use Rattle.field.specs.Partners as inverse
 
 -- a factor may be reduced first
 pub remainder-mul : (q a b : ℕ) → a % q * b % q ≡ a * b % q

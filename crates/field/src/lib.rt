@@ -1,4 +1,6 @@
 // Finite fields: one trait, whose meaning is an arithmetic with its laws, and the three fields of the archive.
+#![tactic(auto)]
+
 mod arithmetic;
 mod examples;
 mod modular;

@@ -1,6 +1,6 @@
 ghost use Rattle.std.specs.Prelude.{◌≡◌, ◌<◌, ◌≢◌};
 ghost use Rattle.field.specs.Fields.{count};
-ghost use Rattle.field.specs.FieldsLemmas as Fields;
+ghost use Rattle.field.specs.LawfulFields as lawful_fields;
 
 use crate::arithmetic::Field;
 
@@ -12,7 +12,7 @@ impl Field for Count {
 
     ghost arithmetic = { count };
 
-    ghost lawful = { Fields.count };
+    ghost lawful = { lawful_fields.count };
 
     fn size() -> u32 {
         Self::ORDER

@@ -3,7 +3,7 @@ ghost use Rattle.field.specs.Arithmetic.{inverse_of};
 ghost use Rattle.field.specs.Fields.{nibble, byte};
 ghost use Rattle.field.specs.Polynomials.{mul_mod, binary};
 ghost use Rattle.field.specs.Powers.{power_of_x, Cyclic};
-ghost use Rattle.field.specs.FieldsLemmas as Fields;
+ghost use Rattle.field.specs.LawfulFields as lawful_fields;
 
 use crate::arithmetic::Field;
 use crate::tables;
@@ -70,7 +70,7 @@ impl Binary for Nibble {
 
     ghost modulus = { 0x13 };
 
-    ghost cyclic = { Fields.nibble };
+    ghost cyclic = { lawful_fields.nibble };
 
     fn codes() -> u32 {
         16
@@ -90,7 +90,7 @@ impl Field for Nibble {
 
     ghost arithmetic = { nibble };
 
-    ghost lawful = { (Fields.nibble).laws };
+    ghost lawful = { (lawful_fields.nibble).laws };
 
     fn size() -> u32 {
         Self::ORDER
@@ -121,7 +121,7 @@ impl Binary for Byte {
 
     ghost modulus = { 0x11d };
 
-    ghost cyclic = { Fields.byte };
+    ghost cyclic = { lawful_fields.byte };
 
     fn codes() -> u32 {
         256
@@ -141,7 +141,7 @@ impl Field for Byte {
 
     ghost arithmetic = { byte };
 
-    ghost lawful = { (Fields.byte).laws };
+    ghost lawful = { (lawful_fields.byte).laws };
 
     fn size() -> u32 {
         Self::ORDER

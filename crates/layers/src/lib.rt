@@ -1,4 +1,6 @@
 // Shelves over shelves: two side by side, and one with planned failures.
+#![tactic(auto)]
+
 mod drill;
 mod event;
 mod overfull;

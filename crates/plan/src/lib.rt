@@ -1,4 +1,6 @@
 // Plans: how many bays hold data and how many hold checks, and the coefficient of each data bay in each check.
+#![tactic(auto)]
+
 mod checks;
 mod layout;
 mod powers_plan;

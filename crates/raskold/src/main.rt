@@ -1,4 +1,6 @@
 // Reads a script from standard input, a command to a line, and prints the account.
+#![tactic(auto)]
+
 use archive::Archive;
 use std::io::{BufRead, BufReader};
 

@@ -1,4 +1,6 @@
 // Shelves: what they mean, why their calls are refused, and what any shelf can be asked over a run of cells.
+#![tactic(auto)]
+
 mod limits;
 mod lost;
 mod refusal;

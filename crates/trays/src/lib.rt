@@ -1,4 +1,6 @@
 // Trays: shelves of one bay over memory that a caller lends.
+#![tactic(auto)]
+
 mod blank;
 mod image;
 mod misfit;

@@ -1,4 +1,4 @@
-use Rattle.field.specs.FieldsLemmas.{nibble_products, byte_products}
+use Rattle.field.specs.LawfulFields.{nibble_products, byte_products}
 use Rattle.field.proofs.Remainder.{is_remainder}
 use Rattle.field.proofs.examples.products_are_remainders.Goals as goal
 

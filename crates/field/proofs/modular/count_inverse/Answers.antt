@@ -1,6 +1,6 @@
 use Rattle.std.proofs.Common.{◌≡◌, ℕ, ◌-◌, ◌*◌, ◌/◌, ◌%◌, ◌<◌, sym, ap, ◌∙◌, mod-lt, arith}
 use Rattle.field.specs.Modular.{modular}
-use Rattle.field.specs.FieldsLemmas.{count}
+use Rattle.field.specs.LawfulFields.{count}
 use Rattle.field.specs.Laws.{inverse_is}
 use Rattle.field.specs.Residues.{step}
 use Rattle.field.specs.Prime.{prime}

@@ -1,7 +1,7 @@
 use Rattle.std.proofs.Common.{arith}
 use Rattle.field.specs.Polynomials.{carryless, remainder, mul_mod}
-use Rattle.field.specs.PowersLemmas.{log_below, log_power, powers_from, place, places_from}
-use Rattle.field.specs.FieldsLemmas.{byte_tables}
+use Rattle.field.specs.PowersOfX.{log_below, log_power, powers_from, place, places_from}
+use Rattle.field.specs.LawfulFields.{byte_tables}
 use Rattle.field.proofs.polynomials.ByteBinary.log.Goals as goal
 
 pub returns : goal.returns

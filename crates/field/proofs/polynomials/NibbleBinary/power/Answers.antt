@@ -1,6 +1,6 @@
 use Rattle.std.proofs.Common.{arith}
 use Rattle.field.specs.Polynomials.{carryless, remainder, mul_mod}
-use Rattle.field.specs.PowersLemmas.{power_at, powers_from}
+use Rattle.field.specs.PowersOfX.{power_at, powers_from}
 use Rattle.field.proofs.polynomials.NibbleBinary.power.Goals as goal
 
 pub returns : goal.returns

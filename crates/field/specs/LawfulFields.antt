@@ -5,7 +5,7 @@ use Rattle.field.specs.Polynomials.{carryless, remainder, mul_mod}
 use Rattle.field.specs.Modular.{modular}
 use Rattle.field.specs.Powers.{Cyclic}
 use Rattle.field.specs.Products.{Basis, Products, products}
-use Rattle.field.specs.PowersLemmas.{Tables, powers_from, place, places_from}
+use Rattle.field.specs.PowersOfX.{Tables, powers_from, place, places_from}
 use Rattle.field.specs.BinaryField.{cyclic}
 use Rattle.field.specs.Residues.{laws}
 use Rattle.field.specs.Prime.{prime}
