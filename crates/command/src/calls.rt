@@ -34,6 +34,7 @@ pub enum ShelfCall {
 }
 
 // The call that a line of a drill gives, or None where the line has no token, or where its first begins with '#'.
+#[tactic(auto, unfolding(crate::specs::Calls::calling))]
 pub fn read_call(heap: Global, line: &[u8]) -> Result<Option<ShelfCall>, Fault>
     ensures { ReadsCall line.now result }
 {
@@ -80,6 +81,7 @@ fn read_call_named(heap: Global, name: &[u8], arguments: Cursor) -> Result<Shelf
 }
 
 // How many places the drill has that a line begins, or None where the line's first token is not `drill`.
+#[tactic(auto, unfolding(crate::specs::Calls::drilling))]
 pub fn read_drill(heap: Global, line: &[u8]) -> Result<Option<u32>, Fault>
     ensures { ReadsDrill line.now result }
 {

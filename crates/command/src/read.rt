@@ -13,6 +13,7 @@ use crate::number::numbers;
 use std::alloc::Global;
 
 // The command that a line gives, or None where the line has no token, or where its first begins with '#'.
+#[tactic(auto, unfolding(crate::specs::Reading::reading))]
 pub fn read_command(heap: Global, line: &[u8]) -> Result<Option<Command>, Fault>
     ensures { Reads line.now result }
 {

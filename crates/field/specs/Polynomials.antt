@@ -22,8 +22,8 @@ mul_mod w m a b = remainder w m w (carryless w a b)
 abbrev pub binary : ℕ → ℕ → Arithmetic
 binary w m = record {
   order = 2 ^ w;
-  add = bitXor;
-  sub = bitXor;
+  add = bit_xor;
+  sub = bit_xor;
   mul = mul_mod w m;
   inv = inverse_by (2 ^ w) (mul_mod w m);
 }

@@ -5,7 +5,7 @@ use Rattle.std.proofs.Math.Nat.{div-add-mod, mul-mod_left}
 use Rattle.std.proofs.Math.Decide.{dec_lt}
 use Rattle.std.proofs.Math.Dec.{eqb_refl}
 use Rattle.field.specs.Residues.{Prime}
-use Rattle.field.specs.Checks.{all, all_at}
+use Rattle.field.specs.Checks.{all_at}
 
 -- d + 2 does not divide 65537
 small_test : ℕ → Bool

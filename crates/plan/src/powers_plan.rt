@@ -1,4 +1,4 @@
-ghost use Rattle.std.specs.Prelude.{◌≡◌, ◌<◌, ◌≤◌, Some, None, MatchResult};
+ghost use Rattle.std.specs.Prelude.{◌≡◌, ◌<◌, ◌≤◌, ⊤, Some, None, MatchResult};
 ghost use Rattle.plan.specs.Bounds.{most_data, most_checks};
 ghost use Rattle.plan.specs.Powers.{power, powers};
 ghost use Rattle.plan.specs.Refusals.{bays_refusal};
@@ -7,6 +7,7 @@ ghost use Rattle.plan.specs.Powering.{powers_fitting};
 use crate::layout::{MOST_CHECK_BAYS, MOST_DATA_BAYS, Plan};
 use crate::refusal::Refusal;
 use field::Field;
+use std::alloc::AllocError;
 use std::marker::PhantomData;
 
 // The plan of powers: the coefficient of data bay j in check i is (j + 1) to the i, where power 0 is one.
@@ -18,6 +19,16 @@ pub struct Powers<F> {
     ghost few_data: { data_bays ≤ most_data },
     ghost some_checks: { 1 ≤ check_bays },
     ghost few_checks: { check_bays ≤ most_checks },
+}
+
+impl<F> Clone for Powers<F> {
+    ghost is_clone = { λ x y. y ≡ x };
+
+    ghost is_infallible = { λ _. ⊤ };
+
+    fn clone(&self) -> Result<Powers<F>, AllocError> {
+        Ok(*self)
+    }
 }
 
 impl<F> Copy for Powers<F> {}

@@ -3,7 +3,7 @@ use Rattle.std.proofs.Common.{◌≡◌, ℕ, zero, suc, ◌+◌, ◌<◌, ◌�
 use Rattle.shelf.specs.declared.refusal.Refusal.{Refusal}
 use Rattle.shelf.specs.declared.refusal.Refusal.TheVariants.{Lost}
 use Rattle.shelf.specs.declared.lost.LostCell.{LostCell}
-use Rattle.shelf.specs.Table.{Table, Cell, blank, SameShape, Decayed, Kept}
+use Rattle.shelf.specs.Table.{Table, Cell, SameShape, Decayed, Kept}
 use Rattle.shelf.specs.Calls.{Outcome, Read, ReadAnswer, refuses_read, NoCell}
 use Rattle.shelf.specs.Reads.{Reads, Made, words_in, over, lost_cells, Distinct}
 use Rattle.shelf.proofs.Settling.{same_shape, shape_trans, undecayed, decayed_trans, blank_stays, held_before, read_there, when_done}

@@ -11,8 +11,8 @@ loop-i-preserved g c =
     let k = g.F.Field.arithmetic in
     let x = g.P.Plan.coefficients c.args.plan.now in
     let v = codes k c.args.words.now in
-    c.in-ok-push.ensures.items
-    ∙ ap₂ (λ ys y. ys ++ y ∷ []) c.loop-i.invariant c.check-word.ensures
+    c.in_ok-push.ensures.items
+    ∙ ap₂ (λ ys y. ys ++ y ∷ []) c.loop-i.invariant c.check_word.ensures
     ∙ sym (checks_more k x v c.loop-i.i)
 
 pub returns : goal.returns
@@ -20,5 +20,5 @@ returns g c =
     let k = g.F.Field.arithmetic in
     let x = g.P.Plan.coefficients c.args.plan.now in
     let v = codes k c.args.words.now in
-    let last : c.loop-i.i ≡ x.m = omega (arith, c.check-bays-i-end.ensures) in
+    let last : c.loop-i.i ≡ x.m = omega (arith, c.check_bays-i-end.ensures) in
     c.loop-i.invariant ∙ ap (checks_to k x v) last ∙ all_checks k x v

@@ -16,8 +16,8 @@ loop-i-preserved g c =
     let i = c.loop-i.i in
     let long = codes-length k l cs in
     let here = code_at k l cs i (omega arith) in
-    let is = c.moved-word.ensures.value ∙ ap (λ y. moved k x i c.args.bay y old new) (sym here) in
-    c.in-ok-push.ensures.items
+    let is = c.moved_word.ensures.value ∙ ap (λ y. moved k x i c.args.bay y old new) (sym here) in
+    c.in_ok-push.ensures.items
     ∙ ap₂ (λ ys y. ys ++ y ∷ []) c.loop-i.invariant is
     ∙ sym (moved_more k x c.args.bay old new (codes k cs) i (omega arith))
 

@@ -4,4 +4,4 @@ use Rattle.command.proofs.number.numbers.Goals as goal
 
 pub loop-token-preserved : goal.loop-token-preserved
 loop-token-preserved c =
-    c.loop-token.invariant ∙ numerals_more _ _ _ _ _ _ _ _ _ c.in-ok-push.ensures.items c.in-ok-push.ensures.len c.in-Some.ensures c.in-Some-number.ensures
+    c.loop-token.invariant ∙ numerals_more _ _ _ _ _ _ _ _ _ c.in_ok-push-in-Some-number.ensures.items c.in_ok-push-in-Some-number.ensures.len c.in-Some.ensures c.in-Some-number.ensures

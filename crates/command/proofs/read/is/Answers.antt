@@ -7,5 +7,5 @@ use Rattle.command.proofs.read.is.Goals as goal
 pub returns : goal.returns
 returns c =
     let token = c.args.token.now in
-    let text = c.as-bytes.result.now in
-    same_from_decides _ _ (slice_eq-Decides Decides-eqb token text _ c.eq.ensures) (bytes_eq-Decides token text) ∙ ap (bytes_eq token) c.as-bytes.ensures.value
+    let text = c.as_bytes.result.now in
+    same_from_decides _ _ (slice_eq-Decides Decides-eqb token text _ c.eq.ensures) (bytes_eq-Decides token text) ∙ ap (bytes_eq token) c.as_bytes.ensures.value

@@ -10,7 +10,7 @@ pub loop-rest-preserved : goal.loop-rest-preserved
 loop-rest-preserved c =
     let rest = c.loop-rest.rest in
     let small : 65537 % rest < rest = mod-lt 65537 (omega arith) in
-    let found : c.reduced-product-found.result ≡ c.loop-rest.found * (65537 - 65537 / rest) % 65537 = c.reduced-product-found.ensures in (
+    let found : c.reduced_product-found.result ≡ c.loop-rest.found * (65537 - 65537 / rest) % 65537 = c.reduced_product-found.ensures in (
       omega arith,
       prime rest (omega arith) (omega arith),
       omega (arith, found),

@@ -4,8 +4,8 @@ use Rattle.shelf.proofs.Fetching.{fetch_there, fetched_word, fetched_lost, fetch
 use Rattle.shelf.proofs.runs.fetch.Goals as goal
 use Rattle.shelf.proofs.runs.fetch.Goals.{in-Ok, in-Err}
 
-pub overflow-add-found : goal.overflow-add-found
-overflow-add-found g c = let (rs, n, reads, ws, ms, f) = c.loop-i.invariant in let b = words_bound rs in omega arith
+pub overflow_add-found : goal.overflow_add-found
+overflow_add-found g c = let (rs, n, reads, ws, ms, f) = c.loop-i.invariant in let b = words_bound rs in omega arith
 
 pub loop-i-preserved : goal.loop-i-preserved
 loop-i-preserved g c =
@@ -22,5 +22,5 @@ loop-i-preserved g c =
 
 pub returns : goal.returns
 returns g c =
-    let there = fetch_there (g.S.Shelf.table c.args.shelf.now) c.shape-shape.result c.shape-shape.ensures c.args.bay c.args.first (length c.args.words.now) (length c.args.marks.now) (sym c.bay_refusal.ensures ∙ c.in-default.is) c.if-words-marks.false (sym c.run_refusal.ensures ∙ c.in-default-run-refusal.is) in
+    let there = fetch_there (g.S.Shelf.table c.args.shelf.now) c.shape-shape.result c.shape-shape.ensures c.args.bay c.args.first (length c.args.words.now) (length c.args.marks.now) (sym c.bay_refusal.ensures ∙ c.in_default.is) c.if-words-marks.false (sym c.run_refusal.ensures ∙ c.in_default-run_refusal.is) in
     fetched_all g.S.Shelf.table g.S.Shelf.sound c.args.bay c.args.first c.args.shelf.now c.loop-i.shelf c.args.words.now c.loop-i.words c.args.marks.now c.loop-i.marks c.loop-i.i c.loop-i.found c.loop-i.invariant there (omega (arith, c.loop-i.auto.i-end, c.loop-i-test.false))

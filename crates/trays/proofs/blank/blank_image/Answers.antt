@@ -6,6 +6,6 @@ use Rattle.trays.proofs.blank.blank_image.Goals as goal
 pub returns : goal.returns
 returns c =
     let n = c.args.places in
-    let e : vec_items c.add-section-2.new.bytes ≡ blank_image n = both_sections (vec_items c.new-bytes.result) (vec_items c.add-section.new.bytes) (vec_items c.add-section-2.new.bytes) n
-    c.new-bytes.ensures.items c.in-ok-add-section.ensures c.in-ok-add-section-2.ensures in
+    let e : vec_items c.add_section-2.new.bytes ≡ blank_image n = both_sections (vec_items c.new-bytes.result) (vec_items c.add_section.new.bytes) (vec_items c.add_section-2.new.bytes) n
+    c.new-bytes.ensures.items c.in_ok-add_section.ensures c.in_ok-add_section-2.ensures in
     record { bytes = e; blank = subst (λ (l : List ℕ). BlankImage n l) (sym e) (all-blank n) }

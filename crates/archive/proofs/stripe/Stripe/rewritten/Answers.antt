@@ -12,12 +12,12 @@ returns g c =
     let ws = vec_items c.args.self.now.words in
     let bay = c.args.bay in
     let word = c.args.word in
-    let copy : vec_items c.in-ok-words.words ≡ ws = c.in-ok-words.ensures.items ∙ c.deref-2.ensures.value in
+    let copy : vec_items c.in_ok-words.words ≡ ws = c.in_ok-words.ensures.items ∙ c.deref-2.ensures.value in
     let words : vec_items c.if-bay-len.words ≡ set ws bay word = elim c.if-bay-len.branch [
       | then-bay-len w ↦ ap vec_items w.words-is ∙ ap (λ xs. set xs bay word) copy
       | else-bay-len w ↦
-          ap vec_items w.words-is ∙ copy ∙ sym (set_past ws bay word (omega (arith, w.if-bay-len.false, c.in-ok-words.ensures.len, c.deref-2.ensures.len, c.args.self.now.words.ok.0)))
+          ap vec_items w.words-is ∙ copy ∙ sym (set_past ws bay word (omega (arith, w.if-bay-len.false, c.in_ok-words.ensures.len, c.deref-2.ensures.len, c.args.self.now.words.ok.0)))
     ] in
     both-held words
-    (c.in-ok-checks.ensures
+    (c.in_ok-checks.ensures
     ∙ ap₂ (λ (o : ℕ) (cs : List ℕ). all_moved k x 0 bay (o % k.order) (word % k.order) (codes k cs)) c.word.ensures c.deref.ensures.value)

@@ -16,11 +16,11 @@ returns-in-Some g c =
 pub returns : goal.returns
 returns g c =
     let s = c.args.self.now in
-    let made = c.in-ok-stripe.ensures in
+    let made = c.in_ok-stripe.ensures in
     record {
       plan = refl;
       lays = lay_done g.F.Field.arithmetic (g.P.Plan.coefficients s.plan) (held_at (vec_items s.places)) _ _ _
           c.data_bays.ensures (c.len.ensures ∙ held-length s.places) c.size.ensures
-          c.args.place c.args.words.now _ c.in-ok-answer.answer (sym c.in-default.ensures)
-          (held-set (vec_items s.places) c.args.place c.in-ok-stripe.stripe _ made) (c.in-ok-answer.ensures ∙ made);
+          c.args.place c.args.words.now _ c.in_ok-answer.answer (sym c.in_default.ensures)
+          (held-set (vec_items s.places) c.args.place c.in_ok-stripe.stripe _ made) (c.in_ok-answer.ensures ∙ made);
     }

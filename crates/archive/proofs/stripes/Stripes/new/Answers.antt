@@ -10,7 +10,7 @@ loop-place-init g c = ap held_at c.new-all.ensures.items
 
 pub loop-place-preserved : goal.loop-place-preserved
 loop-place-preserved g c =
-    ap held_at c.in-ok-push.ensures.items
+    ap held_at c.in_ok-push.ensures.items
     ∙ map-append (option_map held) (vec_items c.loop-place.all) (None ∷ [])
     ∙ ap (λ hs. hs ++ None ∷ []) c.loop-place.invariant
     ∙ sym (replicate_more c.loop-place.place None)

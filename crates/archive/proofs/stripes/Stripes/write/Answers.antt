@@ -13,16 +13,16 @@ returns-in-Some g c =
           c.args.bay c.args.place c.args.word c.in-Some.refusal (sym c.in-Some.ensures);
     }
 
-pub returns-in-default-index : goal.returns-in-default-index
-returns-in-default-index g c =
+pub returns-in_default-index : goal.returns-in_default-index
+returns-in_default-index g c =
     let s = c.args.self.now in
     let room : c.args.place < vec_len s.places = search rules in
     record {
       plan = refl;
       writes = write_lost g.F.Field.arithmetic (g.P.Plan.coefficients s.plan) (held_at (vec_items s.places)) _ _ _
           c.data_bays.ensures (c.len.ensures ∙ held-length s.places) c.size.ensures
-          c.args.bay c.args.place c.args.word (sym c.in-default.ensures)
-          (held_here (vec_items s.places) c.args.place _ None (omega (arith, s.places.ok.0)) c.index.ensures c.in-default-index.is);
+          c.args.bay c.args.place c.args.word (sym c.in_default.ensures)
+          (held_here (vec_items s.places) c.args.place _ None (omega (arith, s.places.ok.0)) c.index.ensures c.in_default-index.is);
     }
 
 pub returns : goal.returns
@@ -31,14 +31,14 @@ returns g c =
     let k = g.F.Field.arithmetic in
     let x = g.P.Plan.coefficients s.plan in
     let stripe = c.in-Some-index.stripe in
-    let next = c.in-ok-next.ensures in
+    let next = c.in_ok-next.ensures in
     let room : c.args.place < vec_len s.places = search rules in
     record {
       plan = refl;
       writes = write_done k x (held_at (vec_items s.places)) _ _ _
           c.data_bays.ensures (c.len.ensures ∙ held-length s.places) c.size.ensures
-          c.args.bay c.args.place c.args.word (held stripe) _ c.in-ok-rewrite.rewrite (sym c.in-default.ensures)
+          c.args.bay c.args.place c.args.word (held stripe) _ c.in_ok-rewrite.rewrite (sym c.in_default.ensures)
           (held_here (vec_items s.places) c.args.place _ (Some stripe) (omega (arith, s.places.ok.0)) c.index.ensures c.in-Some-index.is)
-          (held-set (vec_items s.places) c.args.place c.in-ok-next.next _ next)
-          (c.in-ok-rewrite.ensures ∙ ap (comparing k x c.args.bay (held stripe)) next);
+          (held-set (vec_items s.places) c.args.place c.in_ok-next.next _ next)
+          (c.in_ok-rewrite.ensures ∙ ap (comparing k x c.args.bay (held stripe)) next);
     }

@@ -9,7 +9,7 @@ use Rattle.archive.proofs.whole.Archive.carry_out.Goals as goal
 
 pub invariant-of-self : goal.invariant-of-self
 invariant-of-self c =
-    let made = c.in-ok-self.ensures in
+    let made = c.in_ok-self.ensures in
     (∣ subst AllCoded (sym made.1) (fresh_coded c.in-Archive.field c.in-Archive.data_bays c.in-Archive.check_bays c.in-Archive.places made.0) ∣₁, tt)
 
 pub invariant-of-self-in-Lay : goal.invariant-of-self-in-Lay
@@ -20,9 +20,9 @@ pub invariant-of-self-in-Write : goal.invariant-of-self-in-Write
 invariant-of-self-in-Write c =
     (∥∥₁_map c.args.self.now.coded (write_keeps (kept c.args.self.now.contents) (kept c.write.new.self) c.in-Write.bay c.in-Write.place c.in-Write.word c.write.result c.write.ensures), tt)
 
-pub returns-in-ok-rewrite : goal.returns-in-ok-rewrite
-returns-in-ok-rewrite c = record {
+pub returns-in_ok-rewrite : goal.returns-in_ok-rewrite
+returns-in_ok-rewrite c = record {
   carries = search rules;
   afresh = ∥∥₁_elim c.args.self.now.coded (is_set ℕ_set _ _)
-      (λ coded. afresh_in (kept c.args.self.now.contents) c.in-Write.bay c.in-Write.place c.in-Write.word coded (shown c.in-ok-rewrite.rewrite) c.in-ok-rewrite.ensures.1);
+      (λ coded. afresh_in (kept c.args.self.now.contents) c.in-Write.bay c.in-Write.place c.in-Write.word coded (shown c.in_ok-rewrite.rewrite) c.in_ok-rewrite.ensures.1);
 }

@@ -5,23 +5,23 @@ use Rattle.layers.proofs.Halting.{stoppable_patch}
 use Rattle.layers.proofs.Counting.{counts_none, found_stopped, not_stopped, found_running}
 use Rattle.layers.proofs.drill.DrillServiceable.patch.Goals as goal
 
-pub returns-then-count-call : goal.returns-then-count-call
-returns-then-count-call g c =
+pub returns-then-count_call : goal.returns-then-count_call
+returns-then-count_call g c =
     let s = g.S.Shelf.table c.args.self.now.shelf in
-    let none : refuses_word c.args.bay c.args.place c.args.word s ≡ None = tested_word s c.shape.result c.shape.ensures c.word_refusal.result c.args.bay c.args.place c.args.word c.word_refusal.ensures c.in-default.is in
-    let h = c.if-count-call.ensures in
+    let none : refuses_word c.args.bay c.args.place c.args.word s ≡ None = tested_word s c.shape.result c.shape.ensures c.word_refusal.result c.args.bay c.args.place c.args.word c.word_refusal.ensures c.in_default.is in
+    let h = c.if-count_call.ensures in
     record {
-      promised = found_stopped g.S.Shelf.table g.S.Shelf.sound c.args.self.now c.count-call.new.self c.args.bay (refuses_word c.args.bay c.args.place c.args.word) (Patched c.args.bay c.args.place c.args.word) (stoppable_patch c.args.bay c.args.place c.args.word) none h;
-      counts = counts_none g.S.Shelf.table g.S.Shelf.sound c.args.self.now c.count-call.new.self (refuses_word c.args.bay c.args.place c.args.word s) none h.count h.events h.used;
+      promised = found_stopped g.S.Shelf.table g.S.Shelf.sound c.args.self.now c.count_call.new.self c.args.bay (refuses_word c.args.bay c.args.place c.args.word) (Patched c.args.bay c.args.place c.args.word) (stoppable_patch c.args.bay c.args.place c.args.word) none h;
+      counts = counts_none g.S.Shelf.table g.S.Shelf.sound c.args.self.now c.count_call.new.self (refuses_word c.args.bay c.args.place c.args.word s) none h.count h.events h.used;
       stops = λ _ _. (refl, h.shelf);
     }
 
 pub returns : goal.returns
 returns g c =
     let s = g.S.Shelf.table c.args.self.now.shelf in
-    let none : refuses_word c.args.bay c.args.place c.args.word s ≡ None = tested_word s c.shape.result c.shape.ensures c.word_refusal.result c.args.bay c.args.place c.args.word c.word_refusal.ensures c.in-default.is in
-    let h = c.if-count-call.ensures in
-    let before = c.count-call.new.self in
+    let none : refuses_word c.args.bay c.args.place c.args.word s ≡ None = tested_word s c.shape.result c.shape.ensures c.word_refusal.result c.args.bay c.args.place c.args.word c.word_refusal.ensures c.in_default.is in
+    let h = c.if-count_call.ensures in
+    let before = c.count_call.new.self in
     record {
       promised = found_running g.S.Shelf.table g.S.Shelf.sound c.args.self.now (record { shelf = c.patch.new.self; count = before.count; events = before.events; used = before.used }) c.args.bay (refuses_word c.args.bay c.args.place c.args.word) (Patched c.args.bay c.args.place c.args.word) (stoppable_patch c.args.bay c.args.place c.args.word) none before h refl refl c.patch.result c.patch.ensures;
       counts = counts_none g.S.Shelf.table g.S.Shelf.sound c.args.self.now (record { shelf = c.patch.new.self; count = before.count; events = before.events; used = before.used }) (refuses_word c.args.bay c.args.place c.args.word s) none h.count h.events h.used;

@@ -15,37 +15,37 @@ within s t p ws cut none at =
     let all = ap (λ (u : Table). u.bays) (fit_table s t (fit_by_place s t p h.room)) in
     omega (arith, h.count)
 
-pub slice-bounds-lay-end : goal.slice-bounds-lay-end
-slice-bounds-lay-end g c =
+pub slice_bounds-lay-end : goal.slice_bounds-lay-end
+slice_bounds-lay-end g c =
     let s = g.A.Shelf.table c.args.self.now.first in
     let t = g.B.Shelf.table c.args.self.now.second in
     let p = c.args.place in
     let ws = c.args.words.now in
-    let none : refuses_lay p ws (paired s t) ≡ None = tested_lay (paired s t) c.shape.result c.shape.ensures c.lay_refusal.result p ws c.lay_refusal.ensures c.in-default.is in
+    let none : refuses_lay p ws (paired s t) ≡ None = tested_lay (paired s t) c.shape.result c.shape.ensures c.lay_refusal.result p ws c.lay_refusal.ensures c.in_default.is in
     let cut = c.shape-cut.result.0 in
     let at = c.shape-cut.ensures.bays in
     let h : cut ≤ length ws = within s t p ws cut none at in
     h
 
-pub slice-bounds-lay-count-2 : goal.slice-bounds-lay-count-2
-slice-bounds-lay-count-2 g c =
+pub slice_bounds-lay-count-2 : goal.slice_bounds-lay-count-2
+slice_bounds-lay-count-2 g c =
     let s = g.A.Shelf.table c.args.self.now.first in
     let t = g.B.Shelf.table c.args.self.now.second in
     let p = c.args.place in
     let ws = c.args.words.now in
-    let none : refuses_lay p ws (paired s t) ≡ None = tested_lay (paired s t) c.shape.result c.shape.ensures c.lay_refusal.result p ws c.lay_refusal.ensures c.in-default.is in
+    let none : refuses_lay p ws (paired s t) ≡ None = tested_lay (paired s t) c.shape.result c.shape.ensures c.lay_refusal.result p ws c.lay_refusal.ensures c.in_default.is in
     let cut = c.shape-cut.result.0 in
     let at = c.shape-cut.ensures.bays in
     let h : cut ≤ length ws = within s t p ws cut none at in
     h
 
-pub slice-bounds-lay-start-2 : goal.slice-bounds-lay-start-2
-slice-bounds-lay-start-2 g c =
+pub slice_bounds-lay-start-2 : goal.slice_bounds-lay-start-2
+slice_bounds-lay-start-2 g c =
     let s = g.A.Shelf.table c.args.self.now.first in
     let t = g.B.Shelf.table c.args.self.now.second in
     let p = c.args.place in
     let ws = c.args.words.now in
-    let none : refuses_lay p ws (paired s t) ≡ None = tested_lay (paired s t) c.shape.result c.shape.ensures c.lay_refusal.result p ws c.lay_refusal.ensures c.in-default.is in
+    let none : refuses_lay p ws (paired s t) ≡ None = tested_lay (paired s t) c.shape.result c.shape.ensures c.lay_refusal.result p ws c.lay_refusal.ensures c.in_default.is in
     let cut = c.shape-cut.result.0 in
     let at = c.shape-cut.ensures.bays in
     let h : cut ≤ length ws = within s t p ws cut none at in
@@ -57,7 +57,7 @@ returns-in-Err g c =
     let t = g.B.Shelf.table c.args.self.now.second in
     let p = c.args.place in
     let ws = c.args.words.now in
-    let none : refuses_lay p ws (paired s t) ≡ None = tested_lay (paired s t) c.shape.result c.shape.ensures c.lay_refusal.result p ws c.lay_refusal.ensures c.in-default.is in
+    let none : refuses_lay p ws (paired s t) ≡ None = tested_lay (paired s t) c.shape.result c.shape.ensures c.lay_refusal.result p ws c.lay_refusal.ensures c.in_default.is in
     let cut = c.shape-cut.result.0 in
     let at = c.shape-cut.ensures.bays in
     let fit = fit_by_place s t p (lay_fit (paired s t).bays (paired s t).places (paired s t).limit p ws none).room in
@@ -73,7 +73,7 @@ returns-in-Err-lay g c =
     let t = g.B.Shelf.table c.args.self.now.second in
     let p = c.args.place in
     let ws = c.args.words.now in
-    let none : refuses_lay p ws (paired s t) ≡ None = tested_lay (paired s t) c.shape.result c.shape.ensures c.lay_refusal.result p ws c.lay_refusal.ensures c.in-default.is in
+    let none : refuses_lay p ws (paired s t) ≡ None = tested_lay (paired s t) c.shape.result c.shape.ensures c.lay_refusal.result p ws c.lay_refusal.ensures c.in_default.is in
     let cut = c.shape-cut.result.0 in
     let at = c.shape-cut.ensures.bays in
     let fit = fit_by_place s t p (lay_fit (paired s t).bays (paired s t).places (paired s t).limit p ws none).room in
@@ -89,7 +89,7 @@ returns g c =
     let t = g.B.Shelf.table c.args.self.now.second in
     let p = c.args.place in
     let ws = c.args.words.now in
-    let none : refuses_lay p ws (paired s t) ≡ None = tested_lay (paired s t) c.shape.result c.shape.ensures c.lay_refusal.result p ws c.lay_refusal.ensures c.in-default.is in
+    let none : refuses_lay p ws (paired s t) ≡ None = tested_lay (paired s t) c.shape.result c.shape.ensures c.lay_refusal.result p ws c.lay_refusal.ensures c.in_default.is in
     let cut = c.shape-cut.result.0 in
     let at = c.shape-cut.ensures.bays in
     let fit = fit_by_place s t p (lay_fit (paired s t).bays (paired s t).places (paired s t).limit p ws none).room in

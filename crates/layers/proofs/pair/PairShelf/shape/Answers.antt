@@ -3,8 +3,8 @@ use Rattle.shelf.specs.Table.{Table}
 use Rattle.layers.proofs.Beside.{fit_table, unfit_table, fits_is, misfit, pair_fitting}
 use Rattle.layers.proofs.pair.PairShelf.shape.Goals as goal
 
-pub returns-then-limit-second-limit : goal.returns-then-limit-second-limit
-returns-then-limit-second-limit g c =
+pub returns-then-limit-second_limit : goal.returns-then-limit-second_limit
+returns-then-limit-second_limit g c =
     let s = g.A.Shelf.table c.args.self.now.first in
     let t = g.B.Shelf.table c.args.self.now.second in
     let a = c.shape-bays.ensures in

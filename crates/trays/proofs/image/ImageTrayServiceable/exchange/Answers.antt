@@ -12,7 +12,7 @@ returns c =
     let bytes = c.args.self.now.bytes.now in
     let s = bytes_table bytes in
     let b = c.args.bay in
-    let none : refuses_exchange b s ≡ None = tested_exchange s c.shape-shape.result c.shape-shape.ensures c.bay_refusal.result b c.bay_refusal.ensures c.in-default.is in
+    let none : refuses_exchange b s ≡ None = tested_exchange s c.shape-shape.result c.shape-shape.ensures c.bay_refusal.result b c.bay_refusal.ensures c.in_default.is in
     let n = count_is bytes c.shape-shape.result c.shape-shape.ensures b (inr (bay_fit s.bays b none)) in
     let e = c.unmark.ensures ∙ ap (λ m. unmarked m bytes) n in
     record {

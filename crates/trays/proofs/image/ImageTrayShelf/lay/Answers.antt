@@ -7,11 +7,11 @@ use Rattle.trays.proofs.OneBay.{KeptPromise, not_refused}
 use Rattle.trays.proofs.ImageBytes.{count_is, lay_byte, image_laid}
 use Rattle.trays.proofs.image.ImageTrayShelf.lay.Goals as goal
 
-pub overflow-cast-self : goal.overflow-cast-self
-overflow-cast-self c =
+pub overflow_cast-self : goal.overflow_cast-self
+overflow_cast-self c =
     let s = bytes_table c.args.self.now.bytes.now in
     let h = lay_byte c.args.self.now.bytes.now c.args.place c.args.words.now
-    (tested_lay s c.shape-shape.result c.shape-shape.ensures c.lay_refusal.result c.args.place c.args.words.now c.lay_refusal.ensures c.in-default.is) in
+    (tested_lay s c.shape-shape.result c.shape-shape.ensures c.lay_refusal.result c.args.place c.args.words.now c.lay_refusal.ensures c.in_default.is) in
     search rules
 
 pub returns : goal.returns
@@ -21,7 +21,7 @@ returns c =
     let p = c.args.place in
     let ws = c.args.words.now in
     let w = get_or ws 0 0 in
-    let none : refuses_lay p ws s ≡ None = tested_lay s c.shape-shape.result c.shape-shape.ensures c.lay_refusal.result p ws c.lay_refusal.ensures c.in-default.is in
+    let none : refuses_lay p ws s ≡ None = tested_lay s c.shape-shape.result c.shape-shape.ensures c.lay_refusal.result p ws c.lay_refusal.ensures c.in_default.is in
     let n = count_is bytes c.shape-shape.result c.shape-shape.ensures p (inl (lay_fit s.bays s.places s.limit p ws none).room) in
     record {
       promised = subst (λ m. KeptPromise s (bytes_table (set (set bytes (2 + p) 1) (4 + m + p) w)) (refuses_lay p ws) (LayAnswer p ws) (Ok 1)) (sym n) (image_laid bytes p ws none);

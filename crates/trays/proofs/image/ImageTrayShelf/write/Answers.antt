@@ -16,7 +16,7 @@ returns c =
     let bay = c.args.bay in
     let p = c.args.place in
     let w = c.args.word in
-    let none : refuses_word bay p w s ≡ None = tested_word s c.shape-shape.result c.shape-shape.ensures c.word_refusal.result bay p w c.word_refusal.ensures c.in-default.is in
+    let none : refuses_word bay p w s ≡ None = tested_word s c.shape-shape.result c.shape-shape.ensures c.word_refusal.result bay p w c.word_refusal.ensures c.in_default.is in
     let n = count_is bytes c.shape-shape.result c.shape-shape.ensures p (inl (word_fit s.bays s.places s.limit bay p w none).1) in
     let mark = c.if-self-place-ne-FILLED.false in
     record {

@@ -12,10 +12,10 @@ returns c =
     let s = tray_table c.args.self.now in
     let limit = c.args.self.now.limit in
     let none : refuses_exchange c.args.bay s ≡ None =
-    tested_exchange s c.shape.result c.shape.ensures c.bay_refusal.result c.args.bay c.bay_refusal.ensures c.in-default.is in
+    tested_exchange s c.shape.result c.shape.ensures c.bay_refusal.result c.args.bay c.bay_refusal.ensures c.in_default.is in
     record {
-      promised = subst (λ (vs : List ℕ). KeptPromise s (one_bay (fits vs limit) (words_device vs limit)) (refuses_exchange c.args.bay) (Exchanged c.args.bay) (Ok tt)) (sym c.blank-all.ensures) (tray_exchanged c.args.self.now.words.now limit c.args.bay none);
+      promised = subst (λ (vs : List ℕ). KeptPromise s (one_bay (fits vs limit) (words_device vs limit)) (refuses_exchange c.args.bay) (Exchanged c.args.bay) (Ok tt)) (sym c.blank_all.ensures) (tray_exchanged c.args.self.now.words.now limit c.args.bay none);
       answer = not_refused (refuses_exchange c.args.bay s) (Ok tt) none;
-      buffer = c.blank-all.ensures;
+      buffer = c.blank_all.ensures;
       same = record { limit = refl; memory = refl };
     }
