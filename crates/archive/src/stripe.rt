@@ -28,7 +28,7 @@ pub(crate) fn check_words<P: Plan>(
     plan: &P,
     words: &[u32],
 ) -> Result<Vec<u32>, AllocError>
-    ensures { IfOk result (λ v. v.items ≡ checks_on F-as-Field.arithmetic (P.Plan.coefficients plan.now) (codes F-as-Field.arithmetic words.now)) }
+    ensures { IfOk result (λ v. v.items ≡ checks_on P.F.Field.arithmetic (P.Plan.coefficients plan.now) (codes P.F.Field.arithmetic words.now)) }
 {
     let mut checks = Vec::new(heap);
     for i in 0..plan.check_bays() {
@@ -46,7 +46,7 @@ fn moved_words<P: Plan>(
     old: u32,
     new: u32,
 ) -> Result<Vec<u32>, AllocError>
-    ensures { IfOk result (λ v. v.items ≡ all_moved F-as-Field.arithmetic (P.Plan.coefficients plan.now) 0 bay (old % F-as-Field.arithmetic.order) (new % F-as-Field.arithmetic.order) (codes F-as-Field.arithmetic checks.now)) }
+    ensures { IfOk result (λ v. v.items ≡ all_moved P.F.Field.arithmetic (P.Plan.coefficients plan.now) 0 bay (old % P.F.Field.arithmetic.order) (new % P.F.Field.arithmetic.order) (codes P.F.Field.arithmetic checks.now)) }
 {
     let mut moved = Vec::new(heap);
     for (i, check) in checks.iter().enumerate() {
@@ -58,7 +58,7 @@ fn moved_words<P: Plan>(
 impl Stripe {
     // The words of a lay, with their checks.
     pub(crate) fn laid<P: Plan>(heap: Global, plan: &P, words: &[u32]) -> Result<Stripe, AllocError>
-        ensures { IfOk result (λ s. held s ≡ laid F-as-Field.arithmetic (P.Plan.coefficients plan.now) words.now) }
+        ensures { IfOk result (λ s. held s ≡ laid P.F.Field.arithmetic (P.Plan.coefficients plan.now) words.now) }
     {
         Ok(Stripe {
             words: Vec::from_slice(heap, words)?,
@@ -85,7 +85,7 @@ impl Stripe {
         bay: usize,
         word: u32,
     ) -> Result<Stripe, AllocError>
-        ensures { IfOk result (λ s. held s ≡ rewritten F-as-Field.arithmetic (P.Plan.coefficients plan.now) bay word (held self.now)) }
+        ensures { IfOk result (λ s. held s ≡ rewritten P.F.Field.arithmetic (P.Plan.coefficients plan.now) bay word (held self.now)) }
     {
         let checks = moved_words(heap, plan, bay, &self.checks, self.word(bay), word)?;
         let mut words = Vec::from_slice(heap, &self.words)?;
@@ -103,7 +103,7 @@ impl Stripe {
         bay: usize,
         next: &Stripe,
     ) -> Result<Rewrite, AllocError>
-        ensures { IfOk result (λ w. shown w ≡ comparing F-as-Field.arithmetic (P.Plan.coefficients plan.now) bay (held self.now) (held next.now)) }
+        ensures { IfOk result (λ w. shown w ≡ comparing P.F.Field.arithmetic (P.Plan.coefficients plan.now) bay (held self.now) (held next.now)) }
     {
         Ok(Rewrite {
             old: self.word(bay),

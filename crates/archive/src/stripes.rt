@@ -32,7 +32,7 @@ impl<P: Plan> Stripes<P> {
     // Lays the words, one for each data bay, at a place, and answers the stripe that is there now.
     pub fn lay(&mut self, heap: Global, place: usize, words: &[u32]) -> Result<Stripe, Fault>
         ensures plan { self.new.plan ≡ self.old.plan }
-        ensures lays { Lays F-as-Field.arithmetic (P.Plan.coefficients self.old.plan) self.old.places.items self.new.places.items place words.now result }
+        ensures lays { Lays P.F.Field.arithmetic (P.Plan.coefficients self.old.plan) self.old.places.items self.new.places.items place words.now result }
     {
         if let Some(refusal) = lay_refusal(
             self.plan.data_bays(),

@@ -1,5 +1,5 @@
 -- A shelf with stopped bays: what a call promises of the shelf below, it promises of the drill.
-use Rattle.std.proofs.Common.{◌≡◌, ℕ, ◌+◌, ◌^◌, ◌<◌, ◌≤◌, Bool, true, false, cond, not, ◌&&◌, ◌||◌, ◌≢◌, ◌⊎◌, List, [], ◌∷◌, ◌++◌, map, length, take, drop, Err, Option, Result, sym, refl, ap, ◌∙◌, subst, inl, inr, ⊎_elim, arith}
+use Rattle.std.proofs.Common.{◌≡◌, ℕ, ◌^◌, ◌<◌, ◌≤◌, Bool, true, false, cond, not, ◌&&◌, ◌||◌, ◌≢◌, List, [], ◌∷◌, ◌++◌, map, length, take, drop, Err, Option, Result, sym, refl, ap, ◌∙◌, subst, inl, inr, ⊎_elim, arith}
 use Rattle.std.proofs.lemmas.List.{take_all, drop_all, append-nil}
 use Rattle.std.proofs.lemmas.Bool.{cases_Bool, cond-true, cond-false, or_cases, or_left, or_right, true≢false, false≢true}
 use Rattle.std.proofs.lemmas.Bool.Decides.{nat_tests}
@@ -7,7 +7,6 @@ use Rattle.shelf.specs.declared.refusal.Refusal.{Refusal}
 use Rattle.shelf.specs.declared.refusal.Refusal.TheVariants.{Lost}
 use Rattle.shelf.specs.Table.{Table, Cell, blank, holds, SameShape, Decayed, Kept}
 use Rattle.shelf.specs.Calls.{refuses_read, refuses_word, Read, ReadAnswer, Written, WriteAnswer, Laid, Patched, Exchanged, Set, LostOnlyBlank, ThisCell, ThisPlace, NoCell, bit}
-use Rattle.shelf.proofs.Settling.{done}
 use Rattle.layers.specs.declared.event.Event.{Event}
 use Rattle.layers.specs.Drills.{counted, stops, stopped, spent_by, stopping}
 

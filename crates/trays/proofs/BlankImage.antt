@@ -3,7 +3,6 @@ use Rattle.std.proofs.Common.{◌≡◌, ℕ, ◌+◌, ◌-◌, ◌*◌, ◌/◌
 use mathlib.Core.Bool.{and-true}
 use Rattle.std.proofs.lemmas.List.{length-replicate, length-append, get_or_append_left, get_or-append_right, get_or-replicate, replicate_more}
 use Rattle.std.proofs.lemmas.Bool.{eq-eqb}
-use Rattle.shelf.specs.Table.{blank}
 use Rattle.trays.specs.Image.{counted, count_of, word_at, mark_at, is_image, blank_section, blank_image, BlankImage}
 use Rattle.trays.proofs.ImageBytes.{marked-blank}
 

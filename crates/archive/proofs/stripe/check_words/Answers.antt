@@ -4,11 +4,11 @@ use Rattle.plan.proofs.CheckWords.{checks_to, no_checks, all_checks, checks_more
 use Rattle.archive.proofs.stripe.check_words.Goals as goal
 
 pub loop-i-init : goal.loop-i-init
-loop-i-init g c = c.new-checks.ensures.items ∙ no_checks g.F.Field.arithmetic (g.P.Plan.coefficients c.args.plan.now) _
+loop-i-init g c = c.new-checks.ensures.items ∙ no_checks g.P.F.Field.arithmetic (g.P.Plan.coefficients c.args.plan.now) _
 
 pub loop-i-preserved : goal.loop-i-preserved
 loop-i-preserved g c =
-    let k = g.F.Field.arithmetic in
+    let k = g.P.F.Field.arithmetic in
     let x = g.P.Plan.coefficients c.args.plan.now in
     let v = codes k c.args.words.now in
     c.in_ok-push.ensures.items
@@ -17,7 +17,7 @@ loop-i-preserved g c =
 
 pub returns : goal.returns
 returns g c =
-    let k = g.F.Field.arithmetic in
+    let k = g.P.F.Field.arithmetic in
     let x = g.P.Plan.coefficients c.args.plan.now in
     let v = codes k c.args.words.now in
     let last : c.loop-i.i ≡ x.m = omega (arith, c.check_bays-i-end.ensures) in

@@ -7,8 +7,8 @@ use Rattle.archive.proofs.stripe.moved_words.Goals as goal
 
 pub loop-i-preserved : goal.loop-i-preserved
 loop-i-preserved g c =
-    let k = g.F.Field.arithmetic in
-    let l = g.met.F.Field.lawful in
+    let k = g.P.F.Field.arithmetic in
+    let l = g.met.P.F.Field.lawful in
     let x = g.P.Plan.coefficients c.args.plan.now in
     let cs = c.args.checks.now in
     let old = c.args.old % k.order in
@@ -23,8 +23,8 @@ loop-i-preserved g c =
 
 pub returns : goal.returns
 returns g c =
-    let k = g.F.Field.arithmetic in
-    let l = g.met.F.Field.lawful in
+    let k = g.P.F.Field.arithmetic in
+    let l = g.met.P.F.Field.lawful in
     let x = g.P.Plan.coefficients c.args.plan.now in
     let cs = c.args.checks.now in
     let long = codes-length k l cs in

@@ -7,7 +7,7 @@ use Rattle.archive.proofs.stripe.Stripe.rewritten.Goals.{then-bay-len, else-bay-
 
 pub returns : goal.returns
 returns g c =
-    let k = g.F.Field.arithmetic in
+    let k = g.P.F.Field.arithmetic in
     let x = g.P.Plan.coefficients c.args.plan.now in
     let ws = vec_items c.args.self.now.words in
     let bay = c.args.bay in

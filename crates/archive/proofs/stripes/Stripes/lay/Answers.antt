@@ -8,7 +8,7 @@ returns-in-Some g c =
     let s = c.args.self.now in
     record {
       plan = refl;
-      lays = lay_refused g.F.Field.arithmetic (g.P.Plan.coefficients s.plan) (held_at (vec_items s.places)) _ _ _
+      lays = lay_refused g.P.F.Field.arithmetic (g.P.Plan.coefficients s.plan) (held_at (vec_items s.places)) _ _ _
           c.data_bays.ensures (c.len.ensures ∙ held-length s.places) c.size.ensures
           c.args.place c.args.words.now c.in-Some.refusal (sym c.in-Some.ensures);
     }
@@ -19,7 +19,7 @@ returns g c =
     let made = c.in_ok-stripe.ensures in
     record {
       plan = refl;
-      lays = lay_done g.F.Field.arithmetic (g.P.Plan.coefficients s.plan) (held_at (vec_items s.places)) _ _ _
+      lays = lay_done g.P.F.Field.arithmetic (g.P.Plan.coefficients s.plan) (held_at (vec_items s.places)) _ _ _
           c.data_bays.ensures (c.len.ensures ∙ held-length s.places) c.size.ensures
           c.args.place c.args.words.now _ c.in_ok-answer.answer (sym c.in_default.ensures)
           (held-set (vec_items s.places) c.args.place c.in_ok-stripe.stripe _ made) (c.in_ok-answer.ensures ∙ made);

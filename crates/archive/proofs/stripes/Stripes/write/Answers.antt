@@ -8,7 +8,7 @@ returns-in-Some g c =
     let s = c.args.self.now in
     record {
       plan = refl;
-      writes = write_refused g.F.Field.arithmetic (g.P.Plan.coefficients s.plan) (held_at (vec_items s.places)) _ _ _
+      writes = write_refused g.P.F.Field.arithmetic (g.P.Plan.coefficients s.plan) (held_at (vec_items s.places)) _ _ _
           c.data_bays.ensures (c.len.ensures ∙ held-length s.places) c.size.ensures
           c.args.bay c.args.place c.args.word c.in-Some.refusal (sym c.in-Some.ensures);
     }
@@ -19,7 +19,7 @@ returns-in_default-index g c =
     let room : c.args.place < vec_len s.places = search rules in
     record {
       plan = refl;
-      writes = write_lost g.F.Field.arithmetic (g.P.Plan.coefficients s.plan) (held_at (vec_items s.places)) _ _ _
+      writes = write_lost g.P.F.Field.arithmetic (g.P.Plan.coefficients s.plan) (held_at (vec_items s.places)) _ _ _
           c.data_bays.ensures (c.len.ensures ∙ held-length s.places) c.size.ensures
           c.args.bay c.args.place c.args.word (sym c.in_default.ensures)
           (held_here (vec_items s.places) c.args.place _ None (omega (arith, s.places.ok.0)) c.index.ensures c.in_default-index.is);
@@ -28,7 +28,7 @@ returns-in_default-index g c =
 pub returns : goal.returns
 returns g c =
     let s = c.args.self.now in
-    let k = g.F.Field.arithmetic in
+    let k = g.P.F.Field.arithmetic in
     let x = g.P.Plan.coefficients s.plan in
     let stripe = c.in-Some-index.stripe in
     let next = c.in_ok-next.ensures in

@@ -1,4 +1,4 @@
 use Rattle.archive.proofs.whole.Archive.new.Goals as goal
 
-pub invariant-of-result : goal.invariant-of-result
-invariant-of-result c = (∣ tt ∣₁, tt)
+pub invariant_of-result : goal.invariant_of-result
+invariant_of-result c = record { coded = ∣ tt ∣₁ }

@@ -8,7 +8,7 @@ use Rattle.layers.proofs.drill.DrillShelf.write.Goals as goal
 pub returns-then-count_call : goal.returns-then-count_call
 returns-then-count_call g c =
     let s = g.S.Shelf.table c.args.self.now.shelf in
-    let none : refuses_word c.args.bay c.args.place c.args.word s ≡ None = tested_word s c.shape.result c.shape.ensures c.word_refusal.result c.args.bay c.args.place c.args.word c.word_refusal.ensures c.in_default.is in
+    let none : refuses_word c.args.bay c.args.place c.args.word s ≡ None = tested_word s c.shape-shape.result c.shape-shape.ensures c.word_refusal.result c.args.bay c.args.place c.args.word c.word_refusal.ensures c.in_default.is in
     let h = c.if-count_call.ensures in
     record {
       promised = found_stopped g.S.Shelf.table g.S.Shelf.sound c.args.self.now c.count_call.new.self c.args.bay (refuses_word c.args.bay c.args.place c.args.word) (Written c.args.bay c.args.place c.args.word) (stoppable_write c.args.bay c.args.place c.args.word) none h;
@@ -19,7 +19,7 @@ returns-then-count_call g c =
 pub returns : goal.returns
 returns g c =
     let s = g.S.Shelf.table c.args.self.now.shelf in
-    let none : refuses_word c.args.bay c.args.place c.args.word s ≡ None = tested_word s c.shape.result c.shape.ensures c.word_refusal.result c.args.bay c.args.place c.args.word c.word_refusal.ensures c.in_default.is in
+    let none : refuses_word c.args.bay c.args.place c.args.word s ≡ None = tested_word s c.shape-shape.result c.shape-shape.ensures c.word_refusal.result c.args.bay c.args.place c.args.word c.word_refusal.ensures c.in_default.is in
     let h = c.if-count_call.ensures in
     let before = c.count_call.new.self in
     record {

@@ -17,13 +17,13 @@ returns-then-limit-second_limit g c =
       fitting = pair_fitting s t a.fitting b.fitting;
     }
 
-pub returns-else-bays-more-le-MOST-BAYS : goal.returns-else-bays-more-le-MOST-BAYS
-returns-else-bays-more-le-MOST-BAYS g c =
+pub returns-else-bays-more-le-MOST_BAYS : goal.returns-else-bays-more-le-MOST_BAYS
+returns-else-bays-more-le-MOST_BAYS g c =
     let s = g.A.Shelf.table c.args.self.now.first in
     let t = g.B.Shelf.table c.args.self.now.second in
     let a = c.shape-bays.ensures in
     let b = c.shape-more.ensures in
-    let e = unfit_table s t (misfit s t c.shape-bays.result.0 c.shape-more.result.0 c.shape-bays.result.1 c.shape-more.result.1 c.shape-bays.result.2 c.shape-more.result.2 a.bays b.bays a.places b.places a.limit b.limit c.else-bays-more-le-MOST-BAYS.either) in
+    let e = unfit_table s t (misfit s t c.shape-bays.result.0 c.shape-more.result.0 c.shape-bays.result.1 c.shape-more.result.1 c.shape-bays.result.2 c.shape-more.result.2 a.bays b.bays a.places b.places a.limit b.limit c.else-bays-more-le-MOST_BAYS.either) in
     record {
       bays = sym (ap (λ (u : Table). u.bays) e);
       places = sym (ap (λ (u : Table). u.places) e);
