@@ -39,7 +39,7 @@ fn account(rt: &HostRuntime, script: &mut Script) -> anyhow::Result<()> {
 }
 
 fn run(rt: &HostRuntime) -> anyhow::Result<()> {
-    let mut script = Script::new(rt);
+    let mut script = Script::new(rt)?;
     account(rt, &mut script)?;
     let lines = script.lines();
     let refused = script.refused();

@@ -14,13 +14,13 @@ pub struct Script {
 
 impl Script {
     // Nothing is read yet.
-    pub fn new(rt: &HostRuntime) -> Script {
-        Script {
-            input: BufReader::new(rt.stdin()),
+    pub fn new(rt: &HostRuntime) -> anyhow::Result<Script> {
+        Ok(Script {
+            input: BufReader::new(rt.alloc(), rt.stdin())?,
             line: Vec::new(rt.alloc()),
             lines: 0,
             refused: 0,
-        }
+        })
     }
 
     // Reads the next line. False where there is none.
