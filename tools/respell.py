@@ -13,7 +13,7 @@ LETTER = r"[^\s(){}\[\].,;:\"«»⌜⌝∥λ∷⟨⟩]"
 # std's functions that begin the name of a lemma of ours
 STD = {"length", "map", "take", "drop", "append", "mod", "add", "mul", "sub", "codes", "replicate", "get_or", "set", "xor", "bit_xor"}
 # laws that std has under the same name
-AS_IN_STD = {"add-zero", "mul-add", "mul-inv", "one-mul", "sub-add", "zero-add"}
+AS_IN_STD = {"add-zero", "mul-add", "mul-inv", "mul-one", "one-mul", "sub-add", "zero-add"}
 # a lemma of field/specs/Products, whose name would fall together with std's function
 APART = {"bit-xor": "low_bit_xor", "getD-count-from": "get_or-count_from"}
 

@@ -51,11 +51,11 @@ module _ (k : Arithmetic) (l : Lawful k) where
 
   -- the bounds are those of the plan
   pub powers_fitting : (n m : ℕ) → 1 ≤ n → n ≤ most_data → 1 ≤ m → m ≤ most_checks → Fitting k (powers k n m)
-  powers_fitting n m n-low n-high m-low m-high = record {
-    data_low = n-low;
-    data_high = n-high;
-    checks_low = m-low;
-    checks_high = m-high;
-    below = λ i j. coefficient_below i j n m n-high;
+  powers_fitting n m n_low n_high m_low m_high = record {
+    data_low = n_low;
+    data_high = n_high;
+    checks_low = m_low;
+    checks_high = m_high;
+    below = λ i j. coefficient_below i j n m n_high;
     outside = λ i j o. cond-false (nat_lt i m && nat_lt j n) _ _ (without i j m n o);
   }

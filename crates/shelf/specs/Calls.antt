@@ -8,8 +8,8 @@ use Rattle.shelf.specs.Table.{Table, Cell, blank, holds, SameShape, Unchanged, D
 -- What a call keeps between the tables before and after it, where `refusal` is why it is refused, if it is. A refused call answers the
 -- refusal and changes nothing. Any other call, on a state in order, leaves the state in order and keeps its promise.
 abbrev pub Settled : {A : Type 0} → Table → Table → Type 0 → Type 0 → Option Refusal → (Table → Table → Result A Refusal → Type 0) → Result A Refusal → Type 0
-Settled s t sound-before sound-after (Some e) promise r = (r ≡ Err e) × Unchanged s t × (sound-before → sound-after)
-Settled s t sound-before sound-after None promise r = sound-before → sound-after × promise s t r
+Settled s t sound_before sound_after (Some e) promise r = (r ≡ Err e) × Unchanged s t × (sound_before → sound_after)
+Settled s t sound_before sound_after None promise r = sound_before → sound_after × promise s t r
 
 -- The same between two states of a shelf. Its shape never changes, in order or not.
 abbrev pub Outcome : {A Self : Type 0} → (Self → Table) → (Self → Type 0) → Self → Self → (Table → Option Refusal) → (Table → Table → Result A Refusal → Type 0) → Result A Refusal → Type 0
