@@ -1,6 +1,6 @@
 ghost use Rattle.std.specs.Prelude.{◌≡◌};
 ghost use Rattle.archive.specs.Outcome.{read_fault};
-ghost use Rattle.archive.specs.declared.fault.Fault.TheVariants.{Memory, Plan};
+ghost use Rattle.archive.specs.declared.fault.Fault.TheVariants.{Memory, Plan, Refused};
 
 use shelf::Refusal;
 use std::alloc::AllocError;
@@ -28,6 +28,14 @@ impl From<AllocError> for Fault {
 
     fn from(_e: AllocError) -> Fault {
         Fault::Memory
+    }
+}
+
+impl From<Refusal> for Fault {
+    ghost from_gives = { λ e r. r ≡ Refused e };
+
+    fn from(e: Refusal) -> Fault {
+        Fault::Refused(e)
     }
 }
 

@@ -7,7 +7,7 @@ use plan::{Plan, check_word, moved_word};
 use std::alloc::{AllocError, Global};
 
 // The words of one place: one for each data bay, and one for each check bay.
-#[derive(Drop)]
+#[derive(Clone, Drop)]
 pub struct Stripe {
     pub words: Vec<u32>,
     pub checks: Vec<u32>,
@@ -30,11 +30,9 @@ pub(crate) fn check_words<P: Plan>(
 ) -> Result<Vec<u32>, AllocError>
     ensures { IfOk result (λ v. v.items ≡ checks_on P.F.Field.arithmetic (P.Plan.coefficients plan.now) (codes P.F.Field.arithmetic words.now)) }
 {
-    let mut checks = Vec::new(heap);
-    for i in 0..plan.check_bays() {
-        checks.push(check_word(plan, i, words))?;
-    }
-    Ok(checks)
+    (0..plan.check_bays())
+        .map(|i| check_word(plan, i, words))
+        .collect(heap)
 }
 
 // Each check, moved from the old word of a data bay to the new one.
@@ -48,11 +46,11 @@ fn moved_words<P: Plan>(
 ) -> Result<Vec<u32>, AllocError>
     ensures { IfOk result (λ v. v.items ≡ all_moved P.F.Field.arithmetic (P.Plan.coefficients plan.now) 0 bay (old % P.F.Field.arithmetic.order) (new % P.F.Field.arithmetic.order) (codes P.F.Field.arithmetic checks.now)) }
 {
-    let mut moved = Vec::new(heap);
-    for (i, check) in checks.iter().enumerate() {
-        moved.push(moved_word(plan, i, bay, *check, old, new))?;
-    }
-    Ok(moved)
+    checks
+        .iter()
+        .enumerate()
+        .map(|(i, check)| moved_word(plan, i, bay, *check, old, new))
+        .collect(heap)
 }
 
 impl Stripe {
@@ -70,11 +68,7 @@ impl Stripe {
     pub(crate) fn word(&self, bay: usize) -> u32
         ensures { result ≡ slice_index (held self.now).words bay }
     {
-        if bay < self.words.len() {
-            self.words[bay]
-        } else {
-            0
-        }
+        self.words.get(bay).copied().unwrap_or(0)
     }
 
     // The stripe with another word in a data bay: each check moves by its coefficient times the difference.
@@ -88,7 +82,7 @@ impl Stripe {
         ensures { IfOk result (λ s. held s ≡ rewritten P.F.Field.arithmetic (P.Plan.coefficients plan.now) bay word (held self.now)) }
     {
         let checks = moved_words(heap, plan, bay, &self.checks, self.word(bay), word)?;
-        let mut words = Vec::from_slice(heap, &self.words)?;
+        let mut words = self.words.clone()?;
         if bay < words.len() {
             words[bay] = word;
         }
@@ -107,19 +101,9 @@ impl Stripe {
     {
         Ok(Rewrite {
             old: self.word(bay),
-            before: Vec::from_slice(heap, &self.checks)?,
-            after: Vec::from_slice(heap, &next.checks)?,
+            before: self.checks.clone()?,
+            after: next.checks.clone()?,
             afresh: check_words(heap, plan, &next.words)?,
-        })
-    }
-
-    // The same stripe again.
-    pub(crate) fn copied(&self, heap: Global) -> Result<Stripe, AllocError>
-        ensures { IfOk result (λ s. held s ≡ held self.now) }
-    {
-        Ok(Stripe {
-            words: Vec::from_slice(heap, &self.words)?,
-            checks: Vec::from_slice(heap, &self.checks)?,
         })
     }
 }

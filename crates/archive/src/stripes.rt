@@ -1,11 +1,11 @@
-ghost use Rattle.std.specs.Prelude.{◌≡◌, replicate, IfOk, None};
+ghost use Rattle.std.specs.Prelude.{◌≡◌, length, replicate, IfOk, None};
 ghost use Rattle.archive.specs.Stripes.{held_at, Lays, Writes};
 
 use crate::fault::Fault;
 use crate::stripe::{Rewrite, Stripe};
 use field::Field;
 use plan::Plan;
-use shelf::{Refusal, lay_refusal, word_refusal};
+use shelf::{Refusal, Shape};
 use std::alloc::{AllocError, Global};
 
 // The stripes of an archive, by place: none where nothing was laid.
@@ -22,11 +22,21 @@ impl<P: Plan> Stripes<P> {
         P: Drop,
         ensures { IfOk result (λ s. (s.plan ≡ plan) × (held_at s.places.items ≡ replicate places None)) }
     {
-        let mut all = Vec::new(heap);
-        for place in 0..places {
-            all.push(None)?;
+        Ok(Stripes {
+            plan,
+            places: vec![in heap; None; places]?,
+        })
+    }
+
+    // The shape of the archive as one of data bays: its words are below the field's order.
+    fn shape(&self) -> Shape
+        ensures { result ≡ record { bays = (P.Plan.coefficients self.now.plan).n; places = length self.now.places.items; limit = P.F.Field.arithmetic.order } }
+    {
+        Shape {
+            bays: self.plan.data_bays(),
+            places: self.places.len(),
+            limit: P::F::size(),
         }
-        Ok(Stripes { plan, places: all })
     }
 
     // Lays the words, one for each data bay, at a place, and answers the stripe that is there now.
@@ -34,17 +44,9 @@ impl<P: Plan> Stripes<P> {
         ensures plan { self.new.plan ≡ self.old.plan }
         ensures lays { Lays P.F.Field.arithmetic (P.Plan.coefficients self.old.plan) self.old.places.items self.new.places.items place words.now result }
     {
-        if let Some(refusal) = lay_refusal(
-            self.plan.data_bays(),
-            self.places.len(),
-            P::F::size(),
-            place,
-            words,
-        ) {
-            return Err(Fault::Refused(refusal));
-        }
+        self.shape().check_lay(place, words)?;
         let stripe = Stripe::laid(heap, &self.plan, words)?;
-        let answer = stripe.copied(heap)?;
+        let answer = stripe.clone()?;
         self.places[place] = Some(stripe);
         Ok(answer)
     }
@@ -60,16 +62,7 @@ impl<P: Plan> Stripes<P> {
         ensures plan { self.new.plan ≡ self.old.plan }
         ensures writes { Writes P.F.Field.arithmetic (P.Plan.coefficients self.old.plan) self.old.places.items self.new.places.items bay place word result }
     {
-        if let Some(refusal) = word_refusal(
-            self.plan.data_bays(),
-            self.places.len(),
-            P::F::size(),
-            bay,
-            place,
-            word,
-        ) {
-            return Err(Fault::Refused(refusal));
-        }
+        self.shape().check_word(bay, place, word)?;
         let Some(stripe) = &self.places[place] else {
             return Err(Fault::Refused(Refusal::Lost));
         };

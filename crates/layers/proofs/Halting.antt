@@ -7,8 +7,11 @@ use Rattle.shelf.specs.declared.refusal.Refusal.{Refusal}
 use Rattle.shelf.specs.declared.refusal.Refusal.TheVariants.{Lost}
 use Rattle.shelf.specs.Table.{Table, Cell, blank, holds, SameShape, Decayed, Kept}
 use Rattle.shelf.specs.Calls.{refuses_read, refuses_word, Read, ReadAnswer, Written, WriteAnswer, Laid, Patched, Exchanged, Set, LostOnlyBlank, ThisCell, ThisPlace, NoCell, bit}
-use Rattle.layers.specs.declared.event.Event.{Event}
-use Rattle.layers.specs.Drills.{counted, stops, stopped, spent_by, stopping}
+use Rattle.std.specs.List.{list_any}
+use Rattle.layers.specs.declared.schedule.Event.{Event}
+use Rattle.layers.specs.declared.schedule.Schedule.{Schedule}
+use Rattle.layers.specs.Schedules.{counted, stops, spent_by, counting, stopped, spending}
+use Rattle.layers.specs.Drills.{stopping}
 
 -- events
 
@@ -20,14 +23,18 @@ counted_up n = grind (arith, nat_tests)
 stops_mono : (c c' b : ℕ) (e : Event) → c ≤ c' → stops c b e ≡ true → stops c' b e ≡ true
 stops_mono c c' b e h k = grind (arith, nat_tests)
 
--- so a stopped bay stays so as calls are counted
-pub stopped_mono : (c c' b : ℕ) (es : List Event) → c ≤ c' → stopped c es b ≡ true → stopped c' es b ≡ true
-stopped_mono c c' b [] h k = k
-stopped_mono c c' b (e ∷ es) h k =
+-- so some event still does
+any_mono : (c c' b : ℕ) (es : List Event) → c ≤ c' → list_any (stops c b) es ≡ true → list_any (stops c' b) es ≡ true
+any_mono c c' b [] h k = k
+any_mono c c' b (e ∷ es) h k =
     ⊎_elim
-    (λ i. or_left (stops c' b e) (stopped c' es b) (stops_mono c c' b e h i))
-    (λ i. or_right (stops c' b e) (stopped c' es b) (stopped_mono c c' b es h i))
-    (or_cases (stops c b e) (stopped c es b) k)
+    (λ i. or_left (stops c' b e) (list_any (stops c' b) es) (stops_mono c c' b e h i))
+    (λ i. or_right (stops c' b e) (list_any (stops c' b) es) (any_mono c c' b es h i))
+    (or_cases (stops c b e) (list_any (stops c b) es) k)
+
+-- and a stopped bay stays so as calls are counted
+pub stopped_mono : (s : Schedule) (b : ℕ) → stopped s b ≡ true → stopped (counting s) b ≡ true
+stopped_mono s b h = any_mono s.count (counted s.count) b s.events.items (counted_up s.count) h
 
 -- spending a bay's events leaves those of other bays
 stops_other : (c b bay : ℕ) (e : Event) → b ≢ bay → stops c b (spent_by c bay e) ≡ stops c b e
@@ -38,18 +45,21 @@ stops-none : (c bay : ℕ) (e : Event) → stops c bay (spent_by c bay e) ≡ fa
 stops-none c bay e = grind (arith, nat_tests)
 
 -- so no other bay starts or stops
-pub stopped_other : (c b bay : ℕ) (es : List Event) → b ≢ bay → stopped c (map (spent_by c bay) es) b ≡ stopped c es b
-stopped_other c b bay [] h = refl
-stopped_other c b bay (e ∷ es) h = ap (λ t. t || stopped c (map (spent_by c bay) es) b) (stops_other c b bay e h) ∙ ap (λ t. stops c b e || t) (stopped_other c b bay es h)
+any_other : (c b bay : ℕ) (es : List Event) → b ≢ bay → list_any (stops c b) (map (spent_by c bay) es) ≡ list_any (stops c b) es
+any_other c b bay [] h = refl
+any_other c b bay (e ∷ es) h =
+    ap (λ t. t || list_any (stops c b) (map (spent_by c bay) es)) (stops_other c b bay e h) ∙ ap (λ t. stops c b e || t) (any_other c b bay es h)
 
--- so the bay is free
-pub stopped_none : (c bay : ℕ) (es : List Event) → stopped c (map (spent_by c bay) es) bay ≡ false
-stopped_none c bay [] = refl
-stopped_none c bay (e ∷ es) = ap (λ t. t || stopped c (map (spent_by c bay) es) bay) (stops-none c bay e) ∙ stopped_none c bay es
+pub stopped_other : (s : Schedule) (b bay : ℕ) → b ≢ bay → stopped (spending bay s) b ≡ stopped s b
+stopped_other s b bay h = any_other s.count b bay s.events.items h
 
--- the end of the loop that marks the events
-pub mapped : (h : Event → Event) (xs ys : List Event) (i : ℕ) → length xs ≤ i → ys ≡ map h (take i xs) ++ drop i xs → ys ≡ map h xs
-mapped h xs ys i k e = e ∙ (ap (λ zs. map h zs ++ drop i xs) (take_all i xs k) ∙ (ap (λ zs. map h xs ++ zs) (drop_all i xs k) ∙ append-nil (map h xs)))
+-- and the bay is free
+any_none : (c bay : ℕ) (es : List Event) → list_any (stops c bay) (map (spent_by c bay) es) ≡ false
+any_none c bay [] = refl
+any_none c bay (e ∷ es) = ap (λ t. t || list_any (stops c bay) (map (spent_by c bay) es)) (stops-none c bay e) ∙ any_none c bay es
+
+pub stopped_none : (s : Schedule) (bay : ℕ) → stopped (spending bay s) bay ≡ false
+stopped_none s bay = any_none s.count bay s.events.items
 
 -- tables
 

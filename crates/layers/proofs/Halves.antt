@@ -1,5 +1,5 @@
 -- A call on one bay of a pair: what the shelf that has the bay shows of it, the pair shows.
-use Rattle.std.proofs.Common.{◌≡◌, ℕ, ◌+◌, ◌<◌, Option, Result, arith}
+use Rattle.std.proofs.Common.{◌≡◌, ℕ, ◌+◌, ◌<◌, Ok, Option, Result, arith}
 use Rattle.shelf.specs.declared.refusal.Refusal.{Refusal}
 use Rattle.shelf.specs.Table.{Table, SameShape}
 use Rattle.shelf.specs.Calls.{Settled}
@@ -16,7 +16,7 @@ pub record Kind {A : Type 0} (refusal : ℕ → Table → Option Refusal) (promi
 
 module _ {A : Type 0} (refusal : ℕ → Table → Option Refusal) (promise : ℕ → Table → Table → Result A Refusal → Type 0) (kind : Kind refusal promise) (r : Result A Refusal) where
   -- the first shelf has the bay
-  pub on_first : (s s' t : Table) (P P' Q : Type 0) (b : ℕ) → InHalf s t b First → SameShape s s' × Settled s s' P P' (refusal b s) (promise b) r → SameShape (paired s t) (paired s' t) × Settled (paired s t) (paired s' t) (P × Q) (P' × Q) (refusal b (paired s t)) (promise b) r
+  pub on_first : (s s' t : Table) (P P' Q : Type 0) (b : ℕ) → InHalf s t b (Ok First) → SameShape s s' × Settled s s' P P' (refusal b s) (promise b) r → SameShape (paired s t) (paired s' t) × Settled (paired s t) (paired s' t) (P × Q) (P' × Q) (refusal b (paired s t)) (promise b) r
   on_first s s' t P P' Q b (fit, h) done =
       let part = first_part s s' t fit done.0 in
       let at : b ≡ 0 + b = omega arith in
@@ -24,15 +24,8 @@ module _ {A : Type 0} (refusal : ℕ → Table → Option Refusal) (promise : �
       (kind.alike 0 s s' (paired s t) (paired s' t) part b b at h) (kind.lifts 0 s s' (paired s t) (paired s' t) part b b at h r) done
 
   -- the second has it, under another number
-  pub on_second : (s t t' : Table) (P Q Q' : Type 0) (b x : ℕ) → InHalf s t b (Second x) → SameShape t t' × Settled t t' Q Q' (refusal x t) (promise x) r → SameShape (paired s t) (paired s t') × Settled (paired s t) (paired s t') (P × Q) (P × Q') (refusal b (paired s t)) (promise b) r
+  pub on_second : (s t t' : Table) (P Q Q' : Type 0) (b x : ℕ) → InHalf s t b (Ok (Second x)) → SameShape t t' × Settled t t' Q Q' (refusal x t) (promise x) r → SameShape (paired s t) (paired s t') × Settled (paired s t) (paired s t') (P × Q) (P × Q') (refusal b (paired s t)) (promise b) r
   on_second s t t' P Q Q' b x (fit, at, h) done =
       let part = second_part s t t' fit done.0 in
       part_settled s.bays t t' (paired s t) (paired s t') part b x at h Q Q' (P × Q) (P × Q') (λ y. y.1) (λ y z. (z.0, y)) refusal promise r
       (kind.alike s.bays t t' (paired s t) (paired s t') part b x at h) (kind.lifts s.bays t t' (paired s t) (paired s t') part b x at h r) done
-
--- a bay of the first shelf, or of the second, is none of the other
-pub only_first : {A B : Type 0} (s t : Table) (bay : ℕ) (x y : Pair A B) → InHalf s t bay First → y.second ≡ x.second → Aside s.bays bay x y
-only_first s t bay x y (fit, h) e = record { second = λ _. e; first = λ k. absurd (let v : ⊥ = omega arith in v) }
-
-pub only_second : {A B : Type 0} (s t : Table) (bay z : ℕ) (x y : Pair A B) → InHalf s t bay (Second z) → y.first ≡ x.first → Aside s.bays bay x y
-only_second s t bay z x y (fit, at, h) e = record { second = λ k. absurd (let v : ⊥ = omega arith in v); first = λ _. e }

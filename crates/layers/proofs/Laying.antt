@@ -51,8 +51,8 @@ too_large-append limit (x ∷ xs) ys =
     elim (leb limit x) as (λ t. (t || too_large limit (xs ++ ys)) ≡ ((t || too_large limit xs) || too_large limit ys)) [ true ↦ refl | false ↦ too_large-append limit xs ys ]
 
 -- the parts of the slice that the two shelves are lent
-pub first_slice : (ws : List ℕ) (cut k : ℕ) → cut ≡ k → take (cut - 0) ws ≡ take k ws
-first_slice ws cut k e = let f : cut - 0 ≡ k = omega arith in ap (λ n. take n ws) f
+pub first_slice : (ws : List ℕ) (cut bays : ℕ) → cut ≡ bays → take cut ws ≡ take bays ws
+first_slice ws cut bays e = ap (λ n. take n ws) e
 
 pub second_slice : (ws : List ℕ) (cut k : ℕ) → cut ≡ k → take (length ws - cut) (drop cut ws) ≡ drop k ws
 second_slice ws cut k e = take_rest ws cut ∙ ap (λ n. drop n ws) e

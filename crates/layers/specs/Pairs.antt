@@ -1,12 +1,13 @@
 -- What a pair of shelves means: the second shelf's bays after the first's. Two that do not go together have no bays and no places.
 use Rattle.std.specs.Prelude.{◌≡◌, ℕ, ◌+◌, ◌-◌, ◌*◌, ◌^◌, ◌<◌, ◌≤◌, Bool, true, cond, ◌&&◌, List, take, drop, Ok, Err, Result, ◌==◌, nat_le, nat_lt}
 use Rattle.shelf.specs.declared.refusal.Refusal.{Refusal}
+use Rattle.shelf.specs.declared.refusal.Refusal.TheVariants.{NoSuchBay}
 use Rattle.shelf.specs.Bounds.{most_bays}
 use Rattle.shelf.specs.Table.{Table}
 use Rattle.shelf.specs.Calls.{Outcome, refuses_lay, LayAnswer}
 use Rattle.layers.specs.declared.pair.Pair.{Pair}
 use Rattle.layers.specs.declared.pair.Half.{Half}
-use Rattle.layers.specs.declared.pair.Half.TheVariants.{First, Second, Neither}
+use Rattle.layers.specs.declared.pair.Half.TheVariants.{First, Second}
 
 -- whether the two go together: few enough bays, and one number of places and one limit
 abbrev pub fits : Table → Table → Bool
@@ -24,11 +25,11 @@ paired_when fit s t = record {
 unfoldable pub paired : Table → Table → Table
 paired s t = paired_when (fits s t) s t
 
--- where a bay of the pair is
-abbrev pub InHalf : Table → Table → ℕ → Half → Type 0
-InHalf s t bay First = (fits s t ≡ true) × (bay < s.bays)
-InHalf s t bay (Second x) = (fits s t ≡ true) × (bay ≡ s.bays + x) × (x < t.bays)
-InHalf s t bay Neither = (paired s t).bays ≤ bay
+-- where a bay of the pair is, or that there is none
+abbrev pub InHalf : Table → Table → ℕ → Result Half Refusal → Type 0
+InHalf s t bay (Ok First) = (fits s t ≡ true) × (bay < s.bays)
+InHalf s t bay (Ok (Second x)) = (fits s t ≡ true) × (bay ≡ s.bays + x) × (x < t.bays)
+InHalf s t bay (Err e) = (e ≡ NoSuchBay) × ((paired s t).bays ≤ bay)
 
 -- the table of a pair, by those of its shelves
 abbrev pub pair_table : {A B : Type 0} → (A → Table) → (B → Table) → Pair A B → Table

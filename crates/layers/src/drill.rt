@@ -1,23 +1,18 @@
 ghost use Rattle.std.specs.Prelude.{◌≡◌, ℕ};
 ghost use Rattle.shelf.specs.Table.{Table, Shaped};
 ghost use Rattle.shelf.specs.Calls.{Outcome, refuses_read, refuses_word, refuses_lay, refuses_exchange, Read, Written, LayAnswer, Patched, Exchanged};
-ghost use Rattle.layers.specs.Drills.{drill_table, HeldOrder, New, Added, CountsCall, Counts, StopsCall, Masked, Spends};
+ghost use Rattle.layers.specs.Drills.{drill_table, HeldOrder, New, Added, Counts, StopsCall, Masked, Spends};
 
-use crate::event::{Event, any_stops, bits_of_running, next_count, spend_all};
 use crate::overfull::Overfull;
-use shelf::{Refusal, Serviceable, Shelf, bay_refusal, cell_refusal, lay_refusal, word_refusal};
-
-// The most events of a drill.
-const MOST_EVENTS: usize = 16;
+use crate::schedule::Schedule;
+use shelf::{Refusal, Serviceable, Shape, Shelf};
 
 // A drill: a shelf whose bays stop at planned calls. It counts the reads, writes, lays and patches that are not refused; when the
 // count reaches an event's number, before the call is carried out, the event's bay is stopped and its cells count as blank.
 #[derive(Drop)]
 pub struct Drill<S> {
     shelf: S,
-    count: u32,
-    events: [Event; MOST_EVENTS],
-    used: usize,
+    schedule: Schedule,
 }
 
 impl<S> Drill<S> {
@@ -27,9 +22,7 @@ impl<S> Drill<S> {
     {
         Drill {
             shelf,
-            count: 0,
-            events: [Event::none(); MOST_EVENTS],
-            used: 0,
+            schedule: Schedule::new(),
         }
     }
 
@@ -37,34 +30,15 @@ impl<S> Drill<S> {
     pub fn into_shelf(self) -> S
         ensures { result ≡ self.shelf }
     {
-        let Drill {
-            shelf,
-            count: _,
-            events: _,
-            used: _,
-        } = self;
+        let Drill { shelf, schedule: _ } = self;
         shelf
-    }
-
-    // Counts a call, and answers whether it finds the bay stopped.
-    fn count_call(&mut self, bay: usize) -> bool
-        ensures { CountsCall bay self.old self.new result }
-    {
-        self.count = next_count(self.count);
-        any_stops(&self.events, self.count, bay)
     }
 
     // Plans that the bay stops at that call, or at once if so many calls were counted already.
     pub fn add(&mut self, call: u32, bay: usize) -> Result<(), Overfull>
         ensures { Added call bay self.old self.new result }
     {
-        if self.used >= MOST_EVENTS {
-            return Err(Overfull::TooManyEvents);
-        }
-        let slot = self.used;
-        self.events[slot] = Event::at(call, bay);
-        self.used = slot + 1;
-        Ok(())
+        self.schedule.add(call, bay)
     }
 }
 
@@ -82,12 +56,8 @@ impl<S: Shelf> Shelf for Drill<S> {
         ensures counts { Counts (refuses_read bay place (S.Shelf.table self.old.shelf)) self.old self.new }
         ensures stops { StopsCall (refuses_read bay place (S.Shelf.table self.old.shelf)) bay self.old self.new result }
     {
-        if let Some(refusal) = cell_refusal(self.shelf.shape(), bay, place) {
-            return Err(refusal);
-        }
-        if self.count_call(bay) {
-            return Err(Refusal::Lost);
-        }
+        Shape::from(self.shelf.shape()).check_cell(bay, place)?;
+        self.schedule.count_call(bay)?;
         self.shelf.read(bay, place)
     }
 
@@ -96,13 +66,8 @@ impl<S: Shelf> Shelf for Drill<S> {
         ensures counts { Counts (refuses_word bay place word (S.Shelf.table self.old.shelf)) self.old self.new }
         ensures stops { StopsCall (refuses_word bay place word (S.Shelf.table self.old.shelf)) bay self.old self.new result }
     {
-        let shape = self.shelf.shape();
-        if let Some(refusal) = word_refusal(shape.0, shape.1, shape.2, bay, place, word) {
-            return Err(refusal);
-        }
-        if self.count_call(bay) {
-            return Err(Refusal::Lost);
-        }
+        Shape::from(self.shelf.shape()).check_word(bay, place, word)?;
+        self.schedule.count_call(bay)?;
         self.shelf.write(bay, place, word)
     }
 
@@ -111,15 +76,11 @@ impl<S: Shelf> Shelf for Drill<S> {
         ensures counts { Counts (refuses_lay place words.now (S.Shelf.table self.old.shelf)) self.old self.new }
         ensures bits { Masked S.Shelf.table S.Shelf.sound place words.now self.old self.new result }
     {
-        let shape = self.shelf.shape();
-        if let Some(refusal) = lay_refusal(shape.0, shape.1, shape.2, place, words) {
-            return Err(refusal);
-        }
-        self.count = next_count(self.count);
-        match self.shelf.lay(place, words) {
-            Ok(bits) => Ok(bits_of_running(&self.events, self.count, shape.0, bits)),
-            Err(refusal) => Err(refusal),
-        }
+        let shape = Shape::from(self.shelf.shape());
+        shape.check_lay(place, words)?;
+        self.schedule.count();
+        let bits = self.shelf.lay(place, words)?;
+        Ok(self.schedule.running_bits(shape.bays, bits))
     }
 }
 
@@ -129,13 +90,8 @@ impl<S: Serviceable> Serviceable for Drill<S> {
         ensures counts { Counts (refuses_word bay place word (S.Shelf.table self.old.shelf)) self.old self.new }
         ensures stops { StopsCall (refuses_word bay place word (S.Shelf.table self.old.shelf)) bay self.old self.new result }
     {
-        let shape = self.shelf.shape();
-        if let Some(refusal) = word_refusal(shape.0, shape.1, shape.2, bay, place, word) {
-            return Err(refusal);
-        }
-        if self.count_call(bay) {
-            return Err(Refusal::Lost);
-        }
+        Shape::from(self.shelf.shape()).check_word(bay, place, word)?;
+        self.schedule.count_call(bay)?;
         self.shelf.patch(bay, place, word)
     }
 
@@ -143,10 +99,8 @@ impl<S: Serviceable> Serviceable for Drill<S> {
         ensures promised { Outcome (drill_table S.Shelf.table) (HeldOrder S.Shelf.sound) self.old self.new (refuses_exchange bay) (Exchanged bay) result }
         ensures spends { Spends (refuses_exchange bay (S.Shelf.table self.old.shelf)) bay self.old self.new }
     {
-        if let Some(refusal) = bay_refusal(self.shelf.shape(), bay) {
-            return Err(refusal);
-        }
-        spend_all(&mut self.events, self.count, bay);
+        Shape::from(self.shelf.shape()).check_bay(bay)?;
+        self.schedule.spend(bay);
         self.shelf.exchange(bay)
     }
 }

@@ -3,7 +3,7 @@ ghost use Rattle.shelf.specs.Table.{Table, Shaped};
 ghost use Rattle.shelf.specs.Calls.{Outcome, refuses_read, refuses_word, refuses_lay, refuses_exchange, Read, Written, LayAnswer, Patched, Exchanged};
 ghost use Rattle.layers.specs.Pairs.{pair_table, Both, InHalf, Aside, Joined};
 
-use shelf::{MOST_BAYS, Refusal, Serviceable, Shelf, lay_refusal};
+use shelf::{MOST_BAYS, Refusal, Serviceable, Shape, Shelf};
 
 // A pair: two shelves side by side, the second's bays after the first's. Where their bays are too many, or their places or limits
 // differ, it has no bays and no places.
@@ -13,11 +13,10 @@ pub struct Pair<A, B> {
     pub second: B,
 }
 
-// Where a bay of a pair is: in the first shelf under its own number, in the second under another, or nowhere.
+// Where a bay of a pair is: in the first shelf under its own number, or in the second under another.
 enum Half {
     First,
     Second(usize),
-    Neither,
 }
 
 impl<A, B> Pair<A, B> {
@@ -38,17 +37,15 @@ impl<A, B> Pair<A, B> {
 
 impl<A: Shelf, B: Shelf> Pair<A, B> {
     // Where a bay is.
-    fn half(&self, bay: usize) -> Half
+    fn half(&self, bay: usize) -> Result<Half, Refusal>
         ensures { InHalf (A.Shelf.table self.now.first) (B.Shelf.table self.now.second) bay result }
     {
-        let (bays, _, _) = self.shape();
+        Shape::from(self.shape()).check_bay(bay)?;
         let (cut, _, _) = self.first.shape();
-        if bay >= bays {
-            Half::Neither
-        } else if bay < cut {
-            Half::First
+        if bay < cut {
+            Ok(Half::First)
         } else {
-            Half::Second(bay - cut)
+            Ok(Half::Second(bay - cut))
         }
     }
 }
@@ -72,10 +69,9 @@ impl<A: Shelf, B: Shelf> Shelf for Pair<A, B> {
         ensures promised { Outcome (pair_table A.Shelf.table B.Shelf.table) (Both A.Shelf.sound B.Shelf.sound) self.old self.new (refuses_read bay place) (Read bay place) result }
         ensures aside { Aside (A.Shelf.table self.old.first).bays bay self.old self.new }
     {
-        match self.half(bay) {
+        match self.half(bay)? {
             Half::First => self.first.read(bay, place),
             Half::Second(bay) => self.second.read(bay, place),
-            Half::Neither => Err(Refusal::NoSuchBay),
         }
     }
 
@@ -83,10 +79,9 @@ impl<A: Shelf, B: Shelf> Shelf for Pair<A, B> {
         ensures promised { Outcome (pair_table A.Shelf.table B.Shelf.table) (Both A.Shelf.sound B.Shelf.sound) self.old self.new (refuses_word bay place word) (Written bay place word) result }
         ensures aside { Aside (A.Shelf.table self.old.first).bays bay self.old self.new }
     {
-        match self.half(bay) {
+        match self.half(bay)? {
             Half::First => self.first.write(bay, place, word),
             Half::Second(bay) => self.second.write(bay, place, word),
-            Half::Neither => Err(Refusal::NoSuchBay),
         }
     }
 
@@ -94,19 +89,10 @@ impl<A: Shelf, B: Shelf> Shelf for Pair<A, B> {
         ensures promised { Outcome (pair_table A.Shelf.table B.Shelf.table) (Both A.Shelf.sound B.Shelf.sound) self.old self.new (refuses_lay place words.now) (LayAnswer place words.now) result }
         ensures bits { Joined A.Shelf.table A.Shelf.sound B.Shelf.table B.Shelf.sound place words.now self.old self.new result }
     {
-        let shape = self.shape();
-        if let Some(refusal) = lay_refusal(shape.0, shape.1, shape.2, place, words) {
-            return Err(refusal);
-        }
+        Shape::from(self.shape()).check_lay(place, words)?;
         let (cut, _, _) = self.first.shape();
-        let low = match self.first.lay(place, &words[0..cut]) {
-            Ok(bits) => bits,
-            Err(refusal) => return Err(refusal),
-        };
-        let high = match self.second.lay(place, &words[cut..]) {
-            Ok(bits) => bits,
-            Err(refusal) => return Err(refusal),
-        };
+        let low = self.first.lay(place, &words[..cut])?;
+        let high = self.second.lay(place, &words[cut..])?;
         Ok(high << cut | low)
     }
 }
@@ -116,10 +102,9 @@ impl<A: Serviceable, B: Serviceable> Serviceable for Pair<A, B> {
         ensures promised { Outcome (pair_table A.Shelf.table B.Shelf.table) (Both A.Shelf.sound B.Shelf.sound) self.old self.new (refuses_word bay place word) (Patched bay place word) result }
         ensures aside { Aside (A.Shelf.table self.old.first).bays bay self.old self.new }
     {
-        match self.half(bay) {
+        match self.half(bay)? {
             Half::First => self.first.patch(bay, place, word),
             Half::Second(bay) => self.second.patch(bay, place, word),
-            Half::Neither => Err(Refusal::NoSuchBay),
         }
     }
 
@@ -127,10 +112,9 @@ impl<A: Serviceable, B: Serviceable> Serviceable for Pair<A, B> {
         ensures promised { Outcome (pair_table A.Shelf.table B.Shelf.table) (Both A.Shelf.sound B.Shelf.sound) self.old self.new (refuses_exchange bay) (Exchanged bay) result }
         ensures aside { Aside (A.Shelf.table self.old.first).bays bay self.old self.new }
     {
-        match self.half(bay) {
+        match self.half(bay)? {
             Half::First => self.first.exchange(bay),
             Half::Second(bay) => self.second.exchange(bay),
-            Half::Neither => Err(Refusal::NoSuchBay),
         }
     }
 }

@@ -1,13 +1,13 @@
 -- A fetch, one place more at a time.
-use Rattle.std.proofs.Common.{◌≡◌, ℕ, ◌+◌, ◌<◌, ◌≤◌, ltb, leb, List, [], ◌∷◌, ◌++◌, length, set, None, Ok, Err, Option, Result, sym, refl, ap, ◌∙◌, subst, arith}
+use Rattle.std.proofs.Common.{◌≡◌, ℕ, ◌+◌, ◌<◌, ◌≤◌, List, [], ◌∷◌, ◌++◌, length, set, None, Ok, Err, Option, Result, sym, refl, ap, ◌∙◌, subst, arith}
 use Rattle.std.proofs.lemmas.List.{length_push}
-use Rattle.std.proofs.lemmas.Bool.{leb-false, ltb-false, lt-leb, le-ltb, eq-eqb}
+use Rattle.std.proofs.lemmas.Bool.{lt-leb, le-ltb, eq-eqb}
 use Rattle.shelf.specs.declared.refusal.Refusal.{Refusal}
 use Rattle.shelf.specs.Refusals.{bay_refusal, run_refusal, fetch_refusal}
-use Rattle.shelf.specs.Table.{Table, Shaped}
+use Rattle.shelf.specs.Table.{Table}
 use Rattle.shelf.specs.Calls.{Outcome, Read, refuses_read}
 use Rattle.shelf.specs.Reads.{Reads, Fetched, Fetches, along, over, word_of, mark_of, words_in}
-use Rattle.shelf.proofs.Words.{passed}
+use Rattle.shelf.proofs.Words.{bay_fit, run_fit}
 use Rattle.shelf.proofs.Running.{reads_more, reads_made, over_some, over_none, words_some, words_none}
 
 -- after i places: the reads so far, and what they put into the buffers
@@ -17,10 +17,10 @@ Fetching table sound bay first before after words words' marks marks' i found =
     × (words' ≡ over word_of rs words) × (marks' ≡ over mark_of rs marks) × (found ≡ words_in rs)
 
 -- a run of places within the shelf passes the tests
-pub fetch_there : (t : Table) (shape : ℕ × ℕ × ℕ) → Shaped t shape → (bay first n m : ℕ) → bay_refusal shape.0 bay ≡ None → n ≡ m → run_refusal shape.1 first n ≡ None → (fetch_refusal t.bays t.places bay first n m ≡ None) × (bay < t.bays) × (first + n ≤ t.places)
-fetch_there t shape is bay first n m no-bay same no_run =
-    let b : bay < t.bays = subst (λ k. bay < k) is.bays (leb-false shape.0 bay (passed (leb shape.0 bay) _ _ no-bay).0) in
-    let p : first + n ≤ t.places = subst (λ k. first + n ≤ k) is.places (ltb-false shape.1 (first + n) (passed (ltb shape.1 (first + n)) _ _ no_run).0) in
+pub fetch_there : (t : Table) (bay first n m : ℕ) → bay_refusal t.bays bay ≡ None → n ≡ m → run_refusal t.places first n ≡ None → (fetch_refusal t.bays t.places bay first n m ≡ None) × (bay < t.bays) × (first + n ≤ t.places)
+fetch_there t bay first n m no_bay same no_run =
+    let b = bay_fit t.bays bay no_bay in
+    let p = run_fit t.places first n no_run in
     let e = lt-leb t.bays bay b in let f = eq-eqb n m same in let h = le-ltb t.places (first + n) p in
     (simp (e, f, h), b, p)
 

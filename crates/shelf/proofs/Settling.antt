@@ -2,7 +2,8 @@
 use Rattle.std.proofs.Common.{◌≡◌, ℕ, ◌<◌, false, List, length, Some, None, Option, Result, sym, refl, ap, ◌∙◌, subst, inl, inr, ⊎_elim, arith}
 use Rattle.std.proofs.lemmas.Bool.{lt-leb, eq-eqb}
 use Rattle.shelf.specs.declared.refusal.Refusal.{Refusal}
-use Rattle.shelf.specs.Refusals.{too_large, bay_refusal, cell_refusal, word_refusal, lay_refusal}
+use Rattle.shelf.specs.declared.shape.Shape.{Shape}
+use Rattle.shelf.specs.Refusals.{too_large, bay_refusal, cell_refusal, word_refusal, lay_refusal, run_refusal}
 use Rattle.shelf.specs.Table.{Table, Cell, blank, holds, Shaped, SameShape, Unchanged, Decayed, Kept}
 use Rattle.shelf.specs.Calls.{Settled, refuses_read, refuses_word, refuses_lay, refuses_exchange}
 
@@ -49,39 +50,45 @@ decayed_trans Touched s t u h k = record {
 pub read_there : (b p : ℕ) (s : Table) → b < s.bays → p < s.places → refuses_read b p s ≡ None
 read_there b p s h k = let e = lt-leb s.bays b h in let f = lt-leb s.places p k in simp (e, f)
 
-pub word_there : (b p w : ℕ) (s : Table) → b < s.bays → p < s.places → w < s.limit → refuses_word b p w s ≡ None
-word_there b p w s h k l =
-    let e = lt-leb s.bays b h in let f = lt-leb s.places p k in let i = lt-leb s.limit w l in simp (e, f, i)
-
 pub lay_there : (p : ℕ) (ws : List ℕ) (s : Table) → p < s.places → length ws ≡ s.bays → too_large s.limit ws ≡ false → refuses_lay p ws s ≡ None
 lay_there p ws s h k l = let e = lt-leb s.places p h in let f = eq-eqb (length ws) s.bays k in simp (e, f, l)
 
-pub exchange_there : (b : ℕ) (s : Table) → b < s.bays → refuses_exchange b s ≡ None
-exchange_there b s h = let e = lt-leb s.bays b h in simp e
+-- A call that the tests on a shelf's shape let pass is not refused: the shape's numbers are those of the table.
+module _ (s : Table) (n : ℕ × ℕ × ℕ) (shape : Shape) (is : Shaped s n) (from : (shape.bays ≡ n.0) × (shape.places ≡ n.1) × (shape.limit ≡ n.2)) where
+  -- each number, by way of the three that the shelf answered
+  pub own_bays : shape.bays ≡ s.bays
+  own_bays = from.0 ∙ is.bays
 
--- A call that the tests on the numbers of `shape` let pass is not refused: o is what the tests answered.
-module _ (s : Table) (shape : ℕ × ℕ × ℕ) (is : Shaped s shape) (o : Option Refusal) where
-  -- the numbers are those of the table, put into the test one by one
-  pub tested_exchange : (b : ℕ) → o ≡ bay_refusal shape.0 b → o ≡ None → refuses_exchange b s ≡ None
-  tested_exchange b e none = sym (ap (λ n. bay_refusal n b) is.bays) ∙ (sym e ∙ none)
+  pub own_places : shape.places ≡ s.places
+  own_places = from.1 ∙ is.places
 
-  pub tested_read : (b p : ℕ) → o ≡ cell_refusal shape.0 shape.1 b p → o ≡ None → refuses_read b p s ≡ None
-  tested_read b p e none =
-      sym (ap (λ n. cell_refusal n shape.1 b p) is.bays ∙ ap (λ n. cell_refusal s.bays n b p) is.places) ∙ (sym e ∙ none)
+  own_limit : shape.limit ≡ s.limit
+  own_limit = from.2 ∙ is.limit
 
-  pub tested_word : (b p w : ℕ) → o ≡ word_refusal shape.0 shape.1 shape.2 b p w → o ≡ None → refuses_word b p w s ≡ None
-  tested_word b p w e none =
+  -- put into the test one by one
+  pub tested_exchange : (b : ℕ) → bay_refusal shape.bays b ≡ None → refuses_exchange b s ≡ None
+  tested_exchange b none = sym (ap (λ m. bay_refusal m b) own_bays) ∙ none
+
+  pub tested_read : (b p : ℕ) → cell_refusal shape.bays shape.places b p ≡ None → refuses_read b p s ≡ None
+  tested_read b p none =
+      sym (ap (λ m. cell_refusal m shape.places b p) own_bays ∙ ap (λ m. cell_refusal s.bays m b p) own_places) ∙ none
+
+  pub tested_word : (b p w : ℕ) → word_refusal shape.bays shape.places shape.limit b p w ≡ None → refuses_word b p w s ≡ None
+  tested_word b p w none =
       sym
-      (ap (λ n. word_refusal n shape.1 shape.2 b p w) is.bays
-      ∙ (ap (λ n. word_refusal s.bays n shape.2 b p w) is.places ∙ ap (λ n. word_refusal s.bays s.places n b p w) is.limit))
-      ∙ (sym e ∙ none)
+      (ap (λ m. word_refusal m shape.places shape.limit b p w) own_bays
+      ∙ (ap (λ m. word_refusal s.bays m shape.limit b p w) own_places ∙ ap (λ m. word_refusal s.bays s.places m b p w) own_limit))
+      ∙ none
 
-  pub tested_lay : (p : ℕ) (ws : List ℕ) → o ≡ lay_refusal shape.0 shape.1 shape.2 p ws → o ≡ None → refuses_lay p ws s ≡ None
-  tested_lay p ws e none =
+  pub tested_lay : (p : ℕ) (ws : List ℕ) → lay_refusal shape.bays shape.places shape.limit p ws ≡ None → refuses_lay p ws s ≡ None
+  tested_lay p ws none =
       sym
-      (ap (λ n. lay_refusal n shape.1 shape.2 p ws) is.bays
-      ∙ (ap (λ n. lay_refusal s.bays n shape.2 p ws) is.places ∙ ap (λ n. lay_refusal s.bays s.places n p ws) is.limit))
-      ∙ (sym e ∙ none)
+      (ap (λ m. lay_refusal m shape.places shape.limit p ws) own_bays
+      ∙ (ap (λ m. lay_refusal s.bays m shape.limit p ws) own_places ∙ ap (λ m. lay_refusal s.bays s.places m p ws) own_limit))
+      ∙ none
+
+  pub tested_run : (first count : ℕ) → run_refusal shape.places first count ≡ None → run_refusal s.places first count ≡ None
+  tested_run first count none = sym (ap (λ m. run_refusal m first count) own_places) ∙ none
 
 -- What a call shows, and what its caller learns: s and t are the tables before and after it, P and Q say that the states are in order,
 -- and o is why it is refused, if it is.

@@ -1,16 +1,16 @@
 -- A survey, one cell more at a time.
-use Rattle.std.proofs.Common.{◌≡◌, ℕ, ◌+◌, ◌*◌, ◌/◌, ◌%◌, ◌<◌, ◌≤◌, ltb, List, [], ◌∷◌, ◌++◌, length, take, drop, set, None, Ok, Err, Option, Result, sym, refl, ap, ◌∙◌, subst, ⊎_elim, mul-zero, arith}
+use Rattle.std.proofs.Common.{◌≡◌, ℕ, ◌+◌, ◌*◌, ◌/◌, ◌%◌, ◌<◌, ◌≤◌, List, [], ◌∷◌, ◌++◌, length, take, drop, set, None, Ok, Err, Option, Result, sym, refl, ap, ◌∙◌, subst, ⊎_elim, mul-zero, arith}
 use Rattle.std.proofs.lemmas.List.{length_push, drop_more, drop_all, set_at, append-nil, append_assoc, take_at}
 use Rattle.std.proofs.lemmas.Nat.{div-add-mod', div_below, mod_below}
-use Rattle.std.proofs.lemmas.Bool.{ltb-false, cases_lt}
+use Rattle.std.proofs.lemmas.Bool.{cases_lt}
 use Rattle.shelf.specs.declared.refusal.Refusal.{Refusal}
 use Rattle.shelf.specs.declared.refusal.Refusal.TheVariants.{ListTooShort}
 use Rattle.shelf.specs.declared.lost.LostCell.{LostCell}
 use Rattle.shelf.specs.Refusals.{run_refusal}
-use Rattle.shelf.specs.Table.{Table, Shaped}
+use Rattle.shelf.specs.Table.{Table}
 use Rattle.shelf.specs.Calls.{Outcome, Read, refuses_read}
 use Rattle.shelf.specs.Reads.{Reads, Made, Distinct, Listed, Surveyed, Surveys, across, lost_cells}
-use Rattle.shelf.proofs.Words.{passed}
+use Rattle.shelf.proofs.Words.{run_fit}
 use Rattle.shelf.proofs.Running.{Inside, cell_at, reads_more, reads_made, lost_none, lost_some, lost_distinct}
 
 -- after k cells: the reads so far, and the list of those that were lost
@@ -40,12 +40,6 @@ across_inside t first count n fits few i j l is =
     let k : j < count * b = omega arith in
     let p = some_bay j count b k in
     (mod_below j b p, (let d = div_below j b count p k in omega arith))
-
--- a run of places within the shelf passes the test
-pub survey_there : (t : Table) (shape : ℕ × ℕ × ℕ) → Shaped t shape → (first count : ℕ) → run_refusal shape.1 first count ≡ None → (run_refusal t.places first count ≡ None) × (first + count ≤ t.places)
-survey_there t shape is first count no_run =
-    let e : run_refusal t.places first count ≡ None = ap (λ n. run_refusal n first count) (sym is.places) ∙ no_run in
-    (e, ltb-false t.places (first + count) (passed (ltb t.places (first + count)) _ _ e).0)
 
 module _ {Self : Type 0} (table : Self → Table) (sound : Self → Type 0) (bays first : ℕ) (s t : Self) (list list' : List LostCell) (k found : ℕ) (so_far : Surveying table sound bays first s t list list' k found) where
   -- a word came: nothing is listed
@@ -79,14 +73,14 @@ module _ {Self : Type 0} (table : Self → Table) (sound : Self → Type 0) (bay
         next ∙ (ap (λ xs. xs ++ drop (found + 1) list) (sym more) ∙ ap (λ m. lost_cells (across bays first) 0 (rs ++ Err x ∷ []) ++ drop m list) (sym f)),
       )
 
-  module _ (count : ℕ) (is-bays : bays ≡ (table s).bays) (there : (run_refusal (table s).places first count ≡ None) × (first + count ≤ (table s).places)) where
+  module _ (count : ℕ) (is-bays : bays ≡ (table s).bays) (none : run_refusal (table s).places first count ≡ None) where
     -- what holds of any reads of the run
     surveyed : (u : Self) (rs : List (Result ℕ Refusal)) (after : List LostCell) (r : Result ℕ Refusal) → Reads table sound (across bays first) 0 s rs u → length rs ≤ count * bays → Listed (lost_cells (across bays first) 0 rs) (length rs) (count * bays) list after r → Surveys table sound s u first count list after r
     surveyed u rs after r reads few listed =
-        subst (λ (o : Option Refusal). Surveyed table sound s u first count list after o r) (sym there.0)
+        subst (λ (o : Option Refusal). Surveyed table sound s u first count list after o r) (sym none)
         (subst (λ b. (rs : List (Result ℕ Refusal)) × Made table sound (across b first) s rs u × Distinct (lost_cells (across b first) 0 rs) × Listed (lost_cells (across b first) 0 rs) (length rs) (count * b) list after r) is-bays (
           rs,
-          reads_made table sound (across bays first) s u rs (subst (λ b. Inside (across b first) 0 (length rs) (table s)) (sym is-bays) (across_inside (table s) first count (length rs) there.1 (subst (λ b. length rs ≤ count * b) is-bays few))) reads,
+          reads_made table sound (across bays first) s u rs (subst (λ b. Inside (across b first) 0 (length rs) (table s)) (sym is-bays) (across_inside (table s) first count (length rs) (run_fit (table s).places first count none) (subst (λ b. length rs ≤ count * b) is-bays few))) reads,
           lost_distinct (across bays first) (across-apart bays first) 0 rs,
           listed,
         ))

@@ -1,23 +1,8 @@
 -- Words against the limit, one after the other.
-use Rattle.std.proofs.Common.{◌≡◌, ℕ, zero, suc, ◌+◌, ◌<◌, ◌≤◌, Bool, true, false, cond, not, ◌||◌, eqb, leb, List, [], ◌∷◌, length, get_or, drop, Some, None, Option, refl, ap, ◌∙◌, inl, inr, arith}
-use Rattle.std.proofs.lemmas.Bool.{cases_lt, both_ways, le-leb, lt-leb, leb-false, eqb-true}
-use Rattle.std.proofs.lemmas.List.{drop_more, drop_all}
+use Rattle.std.proofs.Common.{◌≡◌, ℕ, zero, suc, ◌+◌, ◌<◌, ◌≤◌, Bool, true, false, cond, not, ◌||◌, eqb, leb, ltb, List, [], ◌∷◌, length, get_or, Some, None, Option, refl, ap, inl, inr, arith}
+use Rattle.std.proofs.lemmas.Bool.{cases_lt, both_ways, le-leb, leb-false, ltb-false, eqb-true}
 use Rattle.shelf.specs.declared.refusal.Refusal.{Refusal}
-use Rattle.shelf.specs.Refusals.{too_large, bay_refusal, word_refusal, lay_refusal}
-
--- a word at or above the limit ends the search
-pub large_here : (limit i : ℕ) (ws : List ℕ) → i < length ws → limit ≤ get_or ws i 0 → too_large limit (drop i ws) ≡ true
-large_here limit i ws d h =
-    ap (too_large limit) (drop_more ws i 0 d) ∙ ap (λ b. b || too_large limit (drop (i + 1) ws)) (le-leb limit (get_or ws i 0) h)
-
--- and one below it leaves it to the words after
-pub large_next : (limit i : ℕ) (ws : List ℕ) → i < length ws → get_or ws i 0 < limit → too_large limit (drop i ws) ≡ too_large limit (drop (i + 1) ws)
-large_next limit i ws d h =
-    ap (too_large limit) (drop_more ws i 0 d) ∙ ap (λ b. b || too_large limit (drop (i + 1) ws)) (lt-leb limit (get_or ws i 0) h)
-
--- after the last word none was too large
-pub large_end : (limit i : ℕ) (ws : List ℕ) → length ws ≤ i → too_large limit (drop i ws) ≡ false
-large_end limit i ws h = ap (too_large limit) (drop_all i ws h)
+use Rattle.shelf.specs.Refusals.{too_large, bay_refusal, word_refusal, lay_refusal, run_refusal}
 
 -- where none is too large, each is below the limit
 pub all_low : (limit : ℕ) (ws : List ℕ) → too_large limit ws ≡ false → (j : ℕ) → j < length ws → get_or ws j 0 < limit
@@ -73,3 +58,7 @@ word_fit bays places limit bay place word e =
 -- and of an exchange
 pub bay_fit : (bays bay : ℕ) → bay_refusal bays bay ≡ None → bay < bays
 bay_fit bays bay e = leb-false bays bay (passed (leb bays bay) _ _ e).0
+
+-- and of a run of places
+pub run_fit : (places first count : ℕ) → run_refusal places first count ≡ None → first + count ≤ places
+run_fit places first count e = ltb-false places (first + count) (passed (ltb places (first + count)) _ _ e).0

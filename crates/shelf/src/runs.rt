@@ -2,9 +2,9 @@
 ghost use Rattle.std.specs.Prelude.{ℕ, length};
 ghost use Rattle.shelf.specs.Reads.{Fetches, Surveys};
 
-use crate::limits::{bay_refusal, run_refusal};
 use crate::lost::LostCell;
 use crate::refusal::Refusal;
+use crate::shape::Shape;
 use crate::traits::Shelf;
 
 // Reads a run of places of one bay, as long as the two buffers. Where a word comes it goes into its slot and its mark is 1; a lost
@@ -18,16 +18,12 @@ pub fn fetch<S: Shelf>(
 ) -> Result<usize, Refusal>
     ensures { Fetches S.Shelf.table S.Shelf.sound shelf.old shelf.new bay first words.old words.new marks.old marks.new result }
 {
-    let shape = shelf.shape();
-    if let Some(refusal) = bay_refusal(shape, bay) {
-        return Err(refusal);
-    }
+    let shape = Shape::from(shelf.shape());
+    shape.check_bay(bay)?;
     if words.len() != marks.len() {
         return Err(Refusal::WrongCount);
     }
-    if let Some(refusal) = run_refusal(shape, first, words.len()) {
-        return Err(refusal);
-    }
+    shape.check_run(first, words.len())?;
     let mut found = 0;
     for i in 0..words.len() {
         match shelf.read(bay, first + i) {
@@ -52,14 +48,11 @@ pub fn survey<S: Shelf>(
 ) -> Result<usize, Refusal>
     ensures { Surveys S.Shelf.table S.Shelf.sound shelf.old shelf.new first count list.old list.new result }
 {
-    let shape = shelf.shape();
-    if let Some(refusal) = run_refusal(shape, first, count) {
-        return Err(refusal);
-    }
-    let bays = shape.0;
+    let shape = Shape::from(shelf.shape());
+    shape.check_run(first, count)?;
     let mut found = 0;
-    for k in 0..count * bays {
-        let (bay, place) = (k % bays, first + k / bays);
+    for k in 0..count * shape.bays {
+        let (bay, place) = (k % shape.bays, first + k / shape.bays);
         if let Err(_) = shelf.read(bay, place) {
             if found >= list.len() {
                 return Err(Refusal::ListTooShort);

@@ -12,17 +12,6 @@ use Rattle.trays.specs.Device.{Device, one_bay, slot, unless}
 abbrev pub KeptPromise : {A : Type 0} → Table → Table → (Table → Option Refusal) → (Table → Table → Result A Refusal → Type 0) → Result A Refusal → Type 0
 KeptPromise s t refusal promise r = SameShape s t × Settled s t (Unit {0}) (Unit {0}) (refusal s) promise r
 
--- the answer of a call that is not refused
-pub not_refused : {A : Type 0} (o : Option Refusal) (r : Result A Refusal) → o ≡ None → r ≡ unless o r
-not_refused o r e = ap (λ (x : Option Refusal). unless x r) (sym e)
-
--- the test of a slot, decided
-pub slot_holds : (limit w : ℕ) → w < limit → slot limit w ≡ holds w
-slot_holds limit w h = cond-true (ltb w limit) (holds w) blank (lt-ltb w limit h)
-
-pub slot-blank : (limit w : ℕ) → limit ≤ w → slot limit w ≡ blank
-slot-blank limit w h = cond-false (ltb w limit) (holds w) blank (le-ltb w limit h)
-
 -- a device with a bay is fit, and so is one with a place
 pub fit_by_bay : (fit : Bool) (d : Device) (b : ℕ) → b < (one_bay fit d).bays → fit ≡ true
 fit_by_bay true d b h = refl
@@ -77,26 +66,6 @@ stored_rest fit d d' p w Touched touched h = record {
 -- a cell that holds a word is not blank
 never_blank : (x : Cell) (w : ℕ) → x ≡ holds w → x ≢ blank
 never_blank x w e = λ f. let z : ◌≡◌ {A = ℕ} 0 1 = cc in omega arith
-
-module _ (fit : Bool) (d : Device) (b p w : ℕ) (none : refuses_word b p w (one_bay fit d) ≡ None) where
-  pub bounds : (b < (one_bay fit d).bays) × (p < (one_bay fit d).places) × (w < (one_bay fit d).limit)
-  bounds = word_fit (one_bay fit d).bays (one_bay fit d).places (one_bay fit d).limit b p w none
-
-  -- the cell that was set is the only one of its place
-  only : (x : ℕ) → x < (one_bay fit d).bays → ThisCell b p x p
-  only x h = (first_bay fit d x h ∙ sym (first_bay fit d b bounds.0), refl)
-
-  module _ (d' : Device) (h : Stored p w d d') where
-    -- a write and a patch show this much alike, and a patch also that the cell is filled
-    pub one_written : (old : ℕ) → d.cell p ≡ holds old → KeptPromise (one_bay fit d) (one_bay fit d') (refuses_word b p w) (Written b p w) (Ok tt)
-    one_written old e =
-        done _ _ _ _ _ _ _ none (one_shape fit d d' h.limit h.places)
-        (λ _. (tt, record { rest = stored_rest fit d d' p w (ThisCell b p) only h; answer = subst (λ (x : Cell). WriteAnswer w x (d'.cell p) (Ok tt)) (sym e) (inl h.here, inl refl) }))
-
-    pub one_patched : KeptPromise (one_bay fit d) (one_bay fit d') (refuses_word b p w) (Patched b p w) (Ok tt)
-    one_patched =
-        done _ _ _ _ _ _ _ none (one_shape fit d d' h.limit h.places)
-        (λ _. (tt, record { rest = stored_rest fit d d' p w (ThisCell b p) only h; set = inl h.here; filled = λ run. never_blank (d'.cell p) w h.here; answer = inl refl }))
 
 -- a lay has one word, and sets bit 0
 module _ (fit : Bool) (d : Device) (p : ℕ) (ws : List ℕ) (none : refuses_lay p ws (one_bay fit d) ≡ None) where

@@ -6,7 +6,7 @@ ghost use Rattle.trays.specs.Sections.{TellsSections};
 ghost use Rattle.trays.specs.Image.{counted, count_of, word_at, is_image, laid_out, image_table, InOrder, filling, unmarked, SameMemory};
 
 use crate::misfit::Misfit;
-use shelf::{Refusal, Serviceable, Shelf, bay_refusal, cell_refusal, lay_refusal, word_refusal};
+use shelf::{Refusal, Serviceable, Shape, Shelf};
 
 // The limit of an image tray: its words are bytes.
 const BYTE_LIMIT: u32 = 256;
@@ -28,40 +28,29 @@ pub struct ImageTray<'a> {
 }
 
 // The count in two bytes, low byte first.
-fn count_at(bytes: &[u8], at: usize) -> usize
+fn count_at(bytes: &[u8], at: usize) -> u16
     requires { at + 1 < length bytes.now }
-    ensures count { result ≡ counted bytes.now at }
-    ensures bound { result < 65536 }
+    ensures { result ≡ counted bytes.now at }
 {
-    usize::from(bytes[at]) + 256 * usize::from(bytes[at + 1])
+    u16::from_le_bytes([bytes[at], bytes[at + 1]])
 }
 
 // How many places the bytes have, or none where they are no image.
-fn image_count(bytes: &[u8]) -> Option<usize>
-    ensures count { result ≡ (if is_image bytes.now then Some (count_of bytes.now) else None) }
-    ensures bound { IfSome result (λ n. n < 65536) }
+fn image_count(bytes: &[u8]) -> Option<u16>
+    ensures { result ≡ (if is_image bytes.now then Some (count_of bytes.now) else None) }
 {
     if bytes.len() < 2 {
         return None;
     }
     let count = count_at(bytes, 0);
-    if count < 1 || bytes.len() != 4 + 2 * count {
+    let second = 2 + usize::from(count);
+    if count < 1 || bytes.len() != 2 * second {
         return None;
     }
-    if count_at(bytes, 2 + count) == count {
+    if count_at(bytes, second) == count {
         Some(count)
     } else {
         None
-    }
-}
-
-// Makes the first so many marks 0.
-fn unmark(bytes: &mut [u8], count: usize)
-    requires { 2 + count ≤ length bytes.old }
-    ensures { bytes.new ≡ unmarked count bytes.old }
-{
-    for i in 0..count {
-        bytes[2 + i] = BLANK;
     }
 }
 
@@ -92,7 +81,7 @@ impl<'a> Shelf for ImageTray<'a> {
 
     fn shape(&self) -> (usize, usize, u32) {
         match image_count(self.bytes) {
-            Some(count) => (1, count, BYTE_LIMIT),
+            Some(count) => (1, usize::from(count), BYTE_LIMIT),
             None => (0, 0, LEAST_LIMIT),
         }
     }
@@ -103,14 +92,12 @@ impl<'a> Shelf for ImageTray<'a> {
         ensures buffer { self.new.bytes.now ≡ self.old.bytes.now }
         ensures same { SameMemory self.old self.new }
     {
-        let shape = self.shape();
-        if let Some(refusal) = cell_refusal(shape, bay, place) {
-            return Err(refusal);
-        }
+        let shape = Shape::from(self.shape());
+        shape.check_cell(bay, place)?;
         if self.bytes[2 + place] != FILLED {
             return Err(Refusal::Lost);
         }
-        Ok(u32::from(self.bytes[4 + shape.1 + place]))
+        Ok(u32::from(self.bytes[4 + shape.places + place]))
     }
 
     fn write(&mut self, bay: usize, place: usize, word: u32) -> Result<(), Refusal>
@@ -119,14 +106,12 @@ impl<'a> Shelf for ImageTray<'a> {
         ensures buffer { self.new.bytes.now ≡ if_done result (slice_set self.old.bytes.now (word_at self.old.bytes.now place) word) self.old.bytes.now }
         ensures same { SameMemory self.old self.new }
     {
-        let shape = self.shape();
-        if let Some(refusal) = word_refusal(shape.0, shape.1, shape.2, bay, place, word) {
-            return Err(refusal);
-        }
+        let shape = Shape::from(self.shape());
+        shape.check_word(bay, place, word)?;
         if self.bytes[2 + place] != FILLED {
             return Err(Refusal::Lost);
         }
-        self.bytes[4 + shape.1 + place] = word as u8;
+        self.bytes[4 + shape.places + place] = word as u8;
         Ok(())
     }
 
@@ -136,12 +121,10 @@ impl<'a> Shelf for ImageTray<'a> {
         ensures buffer { self.new.bytes.now ≡ if_done result (filling self.old.bytes.now place (slice_index words.now 0)) self.old.bytes.now }
         ensures same { SameMemory self.old self.new }
     {
-        let shape = self.shape();
-        if let Some(refusal) = lay_refusal(shape.0, shape.1, shape.2, place, words) {
-            return Err(refusal);
-        }
+        let shape = Shape::from(self.shape());
+        shape.check_lay(place, words)?;
         self.bytes[2 + place] = FILLED;
-        self.bytes[4 + shape.1 + place] = words[0] as u8;
+        self.bytes[4 + shape.places + place] = words[0] as u8;
         Ok(1)
     }
 }
@@ -153,12 +136,10 @@ impl<'a> Serviceable for ImageTray<'a> {
         ensures buffer { self.new.bytes.now ≡ if_done result (filling self.old.bytes.now place word) self.old.bytes.now }
         ensures same { SameMemory self.old self.new }
     {
-        let shape = self.shape();
-        if let Some(refusal) = word_refusal(shape.0, shape.1, shape.2, bay, place, word) {
-            return Err(refusal);
-        }
+        let shape = Shape::from(self.shape());
+        shape.check_word(bay, place, word)?;
         self.bytes[2 + place] = FILLED;
-        self.bytes[4 + shape.1 + place] = word as u8;
+        self.bytes[4 + shape.places + place] = word as u8;
         Ok(())
     }
 
@@ -168,11 +149,9 @@ impl<'a> Serviceable for ImageTray<'a> {
         ensures buffer { self.new.bytes.now ≡ if_done result (unmarked (count_of self.old.bytes.now) self.old.bytes.now) self.old.bytes.now }
         ensures same { SameMemory self.old self.new }
     {
-        let shape = self.shape();
-        if let Some(refusal) = bay_refusal(shape, bay) {
-            return Err(refusal);
-        }
-        unmark(self.bytes, shape.1);
+        let shape = Shape::from(self.shape());
+        shape.check_bay(bay)?;
+        self.bytes[2..2 + shape.places].fill(BLANK);
         Ok(())
     }
 }

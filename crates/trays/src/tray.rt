@@ -5,16 +5,13 @@ ghost use Rattle.trays.specs.Device.{slot, word_in, reading, writing, laying, pa
 ghost use Rattle.trays.specs.Words.{checked, blank_word, tray_table, InOrder, SameTray};
 
 use crate::misfit::Misfit;
-use shelf::{
-    MOST_LIMIT, MOST_PLACES, Refusal, Serviceable, Shelf, bay_refusal, cell_refusal, lay_refusal,
-    word_refusal,
-};
+use shelf::{MOST_LIMIT, MOST_PLACES, Refusal, Serviceable, Shape, Shelf};
 
 // The least limit of a tray.
 const LEAST_LIMIT: u32 = 16;
 
 // What a blank slot is stored as.
-pub(crate) const BLANK: u32 = 4_294_967_295;
+pub(crate) const BLANK: u32 = u32::MAX;
 
 // A tray: one bay over a caller's words. A slot at or above the limit is blank. It always runs, and loses nothing.
 #[derive(Drop)]
@@ -34,15 +31,6 @@ fn slot_word(word: u32, limit: u32) -> Result<u32, Refusal>
     }
 }
 
-// Makes every slot blank.
-fn blank_all(words: &mut [u32])
-    ensures { words.new ≡ replicate (length words.old) blank_word }
-{
-    for slot in words.iter_mut() {
-        *slot = BLANK;
-    }
-}
-
 impl<'a> Tray<'a> {
     // A tray over these words. It is never refused; `check` says whether it is fit, and an unfit one has no bay.
     pub fn new(words: &'a mut [u32], limit: u32) -> Tray<'a>
@@ -55,10 +43,10 @@ impl<'a> Tray<'a> {
     pub fn check(&self) -> Result<(), Misfit>
         ensures { result ≡ checked self.now.words.now self.now.limit }
     {
-        if self.limit < LEAST_LIMIT || self.limit > MOST_LIMIT {
+        if !(LEAST_LIMIT..=MOST_LIMIT).contains(&self.limit) {
             return Err(Misfit::Limit);
         }
-        if self.words.len() < 1 || self.words.len() > MOST_PLACES {
+        if !(1..=MOST_PLACES).contains(&self.words.len()) {
             return Err(Misfit::Length);
         }
         Ok(())
@@ -83,9 +71,7 @@ impl<'a> Shelf for Tray<'a> {
         ensures buffer { self.new.words.now ≡ self.old.words.now }
         ensures same { SameTray self.old self.new }
     {
-        if let Some(refusal) = cell_refusal(self.shape(), bay, place) {
-            return Err(refusal);
-        }
+        Shape::from(self.shape()).check_cell(bay, place)?;
         slot_word(self.words[place], self.limit)
     }
 
@@ -95,10 +81,7 @@ impl<'a> Shelf for Tray<'a> {
         ensures buffer { self.new.words.now ≡ if_done result (slice_set self.old.words.now place word) self.old.words.now }
         ensures same { SameTray self.old self.new }
     {
-        let shape = self.shape();
-        if let Some(refusal) = word_refusal(shape.0, shape.1, shape.2, bay, place, word) {
-            return Err(refusal);
-        }
+        Shape::from(self.shape()).check_word(bay, place, word)?;
         slot_word(self.words[place], self.limit)?;
         self.words[place] = word;
         Ok(())
@@ -110,10 +93,7 @@ impl<'a> Shelf for Tray<'a> {
         ensures buffer { self.new.words.now ≡ if_done result (slice_set self.old.words.now place (slice_index words.now 0)) self.old.words.now }
         ensures same { SameTray self.old self.new }
     {
-        let shape = self.shape();
-        if let Some(refusal) = lay_refusal(shape.0, shape.1, shape.2, place, words) {
-            return Err(refusal);
-        }
+        Shape::from(self.shape()).check_lay(place, words)?;
         self.words[place] = words[0];
         Ok(1)
     }
@@ -126,10 +106,7 @@ impl<'a> Serviceable for Tray<'a> {
         ensures buffer { self.new.words.now ≡ if_done result (slice_set self.old.words.now place word) self.old.words.now }
         ensures same { SameTray self.old self.new }
     {
-        let shape = self.shape();
-        if let Some(refusal) = word_refusal(shape.0, shape.1, shape.2, bay, place, word) {
-            return Err(refusal);
-        }
+        Shape::from(self.shape()).check_word(bay, place, word)?;
         self.words[place] = word;
         Ok(())
     }
@@ -140,10 +117,8 @@ impl<'a> Serviceable for Tray<'a> {
         ensures buffer { self.new.words.now ≡ if_done result (replicate (length self.old.words.now) blank_word) self.old.words.now }
         ensures same { SameTray self.old self.new }
     {
-        if let Some(refusal) = bay_refusal(self.shape(), bay) {
-            return Err(refusal);
-        }
-        blank_all(self.words);
+        Shape::from(self.shape()).check_bay(bay)?;
+        self.words.fill(BLANK);
         Ok(())
     }
 }

@@ -1,24 +1,25 @@
-use Rattle.std.proofs.Common.{◌≡◌, [], ◌∷◌, ◌++◌, sym, ap, ◌∙◌, ap₂, arith}
-use Rattle.plan.specs.Rows.{codes}
-use Rattle.plan.proofs.CheckWords.{checks_to, no_checks, all_checks, checks_more}
+use Rattle.std.proofs.Common.{◌≡◌, ℕ, zero, suc, ◌∷◌, map, refl, ap, ◌∙◌, add-one, arith, rules}
+use Rattle.std.specs.List.{range_with_len}
+use Rattle.std.proofs.lemmas.Result.{IfOk-weaker}
+use Rattle.std.proofs.lemmas.Iterator.{YieldsList-from_range, YieldsList-from_map, items_from_collect}
+use Rattle.std.proofs.lemmas.Iterator.Consumers.{YieldsList-at}
+use Rattle.plan.specs.Rows.{count_from, codes, check_on, checks_on}
 use Rattle.archive.proofs.stripe.check_words.Goals as goal
 
-pub loop-i-init : goal.loop-i-init
-loop-i-init g c = c.new-checks.ensures.items ∙ no_checks g.P.F.Field.arithmetic (g.P.Plan.coefficients c.args.plan.now) _
-
-pub loop-i-preserved : goal.loop-i-preserved
-loop-i-preserved g c =
-    let k = g.P.F.Field.arithmetic in
-    let x = g.P.Plan.coefficients c.args.plan.now in
-    let v = codes k c.args.words.now in
-    c.in_ok-push.ensures.items
-    ∙ ap₂ (λ ys y. ys ++ y ∷ []) c.loop-i.invariant c.check_word.ensures
-    ∙ sym (checks_more k x v c.loop-i.i)
+-- the numbers of a range are those that are counted
+range_is : (i n : ℕ) → range_with_len i n ≡ count_from i n
+unfolding count_from
+range_is i zero = refl
+range_is i (suc n) = ap (λ is. i ∷ is) (ap (λ j. range_with_len j n) (add-one i) ∙ range_is (suc i) n)
 
 pub returns : goal.returns
+unfolding checks_on
 returns g c =
     let k = g.P.F.Field.arithmetic in
     let x = g.P.Plan.coefficients c.args.plan.now in
     let v = codes k c.args.words.now in
-    let last : c.loop-i.i ≡ x.m = omega (arith, c.check_bays-i-end.ensures) in
-    c.loop-i.invariant ∙ ap (checks_to k x v) last ∙ all_checks k x v
+    IfOk-weaker c.collect.result _ _ (λ w e. e ∙ ap (map (λ i. check_on k x i v)) (range_is 0 x.m))
+    (items_from_collect _ c.collect.ensures.ran
+    (YieldsList-from_map _ (λ i. check_on k x i v)
+    (YieldsList-at c.map.ensures.source (YieldsList-from_range 0 c.check_bays.result x.m refl (omega (arith, c.check_bays.ensures))))
+    c.map.ensures.closure (λ i r q h. search rules)))

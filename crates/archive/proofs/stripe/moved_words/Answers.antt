@@ -1,32 +1,28 @@
-use Rattle.std.proofs.Common.{◌%◌, [], ◌∷◌, ◌++◌, sym, ap, ◌∙◌, ap₂, arith}
-use Rattle.std.proofs.lemmas.List.{take_all}
+use Rattle.std.proofs.Common.{◌≡◌, ℕ, suc, ◌%◌, List, [], ◌∷◌, map, refl, ap, ◌∙◌, add-one, rules}
+use Rattle.std.specs.List.{enumerate_from}
+use Rattle.std.proofs.lemmas.Result.{IfOk-weaker}
+use Rattle.std.proofs.lemmas.Iterator.{YieldsList-from_slice, YieldsList-from_map, items_from_collect}
+use Rattle.std.proofs.lemmas.Iterator.Consumers.{YieldsList-at, YieldsList-from_enumerate}
+use Rattle.field.specs.Arithmetic.{Arithmetic}
+use Rattle.plan.specs.Coefficients.{Coefficients}
 use Rattle.plan.specs.Rows.{codes, moved, all_moved}
-use Rattle.plan.proofs.CheckWords.{moved_more}
-use Rattle.plan.proofs.Dots.{code_at, codes-length}
 use Rattle.archive.proofs.stripe.moved_words.Goals as goal
 
-pub loop-i-preserved : goal.loop-i-preserved
-loop-i-preserved g c =
-    let k = g.P.F.Field.arithmetic in
-    let l = g.met.P.F.Field.lawful in
-    let x = g.P.Plan.coefficients c.args.plan.now in
-    let cs = c.args.checks.now in
-    let old = c.args.old % k.order in
-    let new = c.args.new % k.order in
-    let i = c.loop-i.i in
-    let long = codes-length k l cs in
-    let here = code_at k l cs i (omega arith) in
-    let is = c.moved_word.ensures.value ∙ ap (λ y. moved k x i c.args.bay y old new) (sym here) in
-    c.in_ok-push.ensures.items
-    ∙ ap₂ (λ ys y. ys ++ y ∷ []) c.loop-i.invariant is
-    ∙ sym (moved_more k x c.args.bay old new (codes k cs) i (omega arith))
+-- each check with its number, moved
+moved_each : (k : Arithmetic) (x : Coefficients) (j old new i : ℕ) (cs : List ℕ) → map (λ (p : ℕ × ℕ). moved k x p.0 j (p.1 % k.order) old new) (enumerate_from i cs) ≡ all_moved k x i j old new (codes k cs)
+moved_each k x j old new i [] = refl
+moved_each k x j old new i (c ∷ cs) =
+    ap (λ ys. moved k x i j (c % k.order) old new ∷ ys)
+    (ap (λ n. map (λ (p : ℕ × ℕ). moved k x p.0 j (p.1 % k.order) old new) (enumerate_from n cs)) (add-one i) ∙ moved_each k x j old new (suc i) cs)
 
 pub returns : goal.returns
 returns g c =
     let k = g.P.F.Field.arithmetic in
-    let l = g.met.P.F.Field.lawful in
     let x = g.P.Plan.coefficients c.args.plan.now in
-    let cs = c.args.checks.now in
-    let long = codes-length k l cs in
-    c.loop-i.invariant
-    ∙ ap (all_moved k x 0 c.args.bay (c.args.old % k.order) (c.args.new % k.order)) (take_all c.loop-i.i (codes k cs) (omega arith))
+    let old = c.args.old % k.order in
+    let new = c.args.new % k.order in
+    IfOk-weaker c.collect.result _ _ (λ w e. e ∙ moved_each k x c.args.bay old new 0 c.args.checks.now)
+    (items_from_collect _ c.collect.ensures.ran
+    (YieldsList-from_map _ (λ (p : ℕ × ℕ). moved k x p.0 c.args.bay (p.1 % k.order) old new)
+    (YieldsList-at c.map.ensures.source (YieldsList-from_enumerate (YieldsList-at c.enumerate.ensures.source (YieldsList-from_slice c.args.checks.now cc)) (cc)))
+    c.map.ensures.closure (λ p r q e. search rules)))

@@ -1,4 +1,5 @@
-use Rattle.std.proofs.Common.{◌<◌, length, sym, ◌∙◌, arith}
+use Rattle.std.proofs.Common.{◌<◌, length, arith}
+use Rattle.shelf.proofs.Settling.{tested_exchange, tested_run}
 use Rattle.shelf.proofs.Running.{words_bound}
 use Rattle.shelf.proofs.Fetching.{fetch_there, fetched_word, fetched_lost, fetched_all}
 use Rattle.shelf.proofs.runs.fetch.Goals as goal
@@ -22,5 +23,8 @@ loop-i-preserved g c =
 
 pub returns : goal.returns
 returns g c =
-    let there = fetch_there (g.S.Shelf.table c.args.shelf.now) c.shape-shape.result c.shape-shape.ensures c.args.bay c.args.first (length c.args.words.now) (length c.args.marks.now) (sym c.bay_refusal.ensures ∙ c.in_default.is) c.if-words-marks.false (sym c.run_refusal.ensures ∙ c.in_default-run_refusal.is) in
+    let t = g.S.Shelf.table c.args.shelf.now in
+    let b = tested_exchange t _ _ c.shape.ensures c.from-shape.ensures c.args.bay c.in_ok-check_bay.ensures in
+    let p = tested_run t _ _ c.shape.ensures c.from-shape.ensures c.args.first (length c.args.words.now) c.in_ok-check_run.ensures in
+    let there = fetch_there t c.args.bay c.args.first (length c.args.words.now) (length c.args.marks.now) b c.if-words-marks.false p in
     fetched_all g.S.Shelf.table g.S.Shelf.sound c.args.bay c.args.first c.args.shelf.now c.loop-i.shelf c.args.words.now c.loop-i.words c.args.marks.now c.loop-i.marks c.loop-i.i c.loop-i.found c.loop-i.invariant there (omega (arith, c.loop-i.auto.i-end, c.loop-i-test.false))

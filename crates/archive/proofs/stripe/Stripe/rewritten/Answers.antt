@@ -1,4 +1,5 @@
-use Rattle.std.proofs.Common.{◌≡◌, ℕ, ◌%◌, List, set, vec_items, sym, ap, ◌∙◌, ap₂, arith}
+use Rattle.std.proofs.Common.{◌≡◌, ℕ, ◌%◌, List, length, set, vec_items, sym, ap, ◌∙◌, ap₂, arith}
+use Rattle.std.specs.List.{each_same}
 use Rattle.std.proofs.lemmas.List.{set_past}
 use Rattle.plan.specs.Rows.{codes, all_moved}
 use Rattle.archive.proofs.Held.{both-held}
@@ -12,11 +13,11 @@ returns g c =
     let ws = vec_items c.args.self.now.words in
     let bay = c.args.bay in
     let word = c.args.word in
-    let copy : vec_items c.in_ok-words.words ≡ ws = c.in_ok-words.ensures.items ∙ c.deref-2.ensures.value in
+    let copy : vec_items c.in_ok-words.words ≡ ws = each_same _ _ c.in_ok-words.ensures.cases.0 in
     let words : vec_items c.if-bay-len.words ≡ set ws bay word = elim c.if-bay-len.branch [
       | then-bay-len w ↦ ap vec_items w.words-is ∙ ap (λ xs. set xs bay word) copy
       | else-bay-len w ↦
-          ap vec_items w.words-is ∙ copy ∙ sym (set_past ws bay word (omega (arith, w.if-bay-len.false, c.in_ok-words.ensures.len, c.deref-2.ensures.len, c.args.self.now.words.ok.0)))
+          ap vec_items w.words-is ∙ copy ∙ sym (set_past ws bay word (omega (arith, w.if-bay-len.false, c.len.ensures, c.in_ok-words.words.ok.0, ap length copy)))
     ] in
     both-held words
     (c.in_ok-checks.ensures

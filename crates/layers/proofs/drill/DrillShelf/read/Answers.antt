@@ -1,29 +1,21 @@
-use Rattle.std.proofs.Common.{◌≡◌, None, refl}
+use Rattle.std.proofs.Common.{refl}
+use Rattle.std.proofs.lemmas.Result.{err_from_is_err_and}
 use Rattle.shelf.specs.Calls.{refuses_read, Read}
 use Rattle.shelf.proofs.Settling.{tested_read}
 use Rattle.layers.proofs.Halting.{stoppable_read}
-use Rattle.layers.proofs.Counting.{counts_none, found_stopped, not_stopped, found_running}
+use Rattle.layers.proofs.Counting.{found_stopped, found_running}
 use Rattle.layers.proofs.drill.DrillShelf.read.Goals as goal
 
-pub returns-then-count_call : goal.returns-then-count_call
-returns-then-count_call g c =
-    let s = g.S.Shelf.table c.args.self.now.shelf in
-    let none : refuses_read c.args.bay c.args.place s ≡ None = tested_read s c.shape.result c.shape.ensures c.cell_refusal.result c.args.bay c.args.place c.cell_refusal.ensures c.in_default.is in
-    let h = c.if-count_call.ensures in
-    record {
-      promised = found_stopped g.S.Shelf.table g.S.Shelf.sound c.args.self.now c.count_call.new.self c.args.bay (refuses_read c.args.bay c.args.place) (Read c.args.bay c.args.place) (stoppable_read c.args.bay c.args.place) none h;
-      counts = counts_none g.S.Shelf.table g.S.Shelf.sound c.args.self.now c.count_call.new.self (refuses_read c.args.bay c.args.place s) none h.count h.events h.used;
-      stops = λ _ _. (refl, h.shelf);
-    }
+pub returns-in_err-count_call-clause-promised : goal.returns-in_err-count_call-clause-promised
+returns-in_err-count_call-clause-promised g c =
+    let none = tested_read (g.S.Shelf.table c.args.self.now.shelf) _ _ c.shape.ensures c.from.ensures c.args.bay c.args.place c.in_ok-check_cell.ensures in
+    let p = err_from_is_err_and c.from_residual-in_err-count_call.result c.from_residual-in_err-count_call.ensures.1 in
+    rw (p.1, p.2)
+    (found_stopped g.S.Shelf.table g.S.Shelf.sound c.args.self.now (record { shelf = c.args.self.now.shelf; schedule = c.count_call.new.self }) c.args.bay (refuses_read c.args.bay c.args.place) (Read c.args.bay c.args.place) (stoppable_read c.args.bay c.args.place) none
+    c.in_err-count_call.field-0.0 c.in_err-count_call.ensures refl)
 
-pub returns : goal.returns
-returns g c =
-    let s = g.S.Shelf.table c.args.self.now.shelf in
-    let none : refuses_read c.args.bay c.args.place s ≡ None = tested_read s c.shape.result c.shape.ensures c.cell_refusal.result c.args.bay c.args.place c.cell_refusal.ensures c.in_default.is in
-    let h = c.if-count_call.ensures in
-    let before = c.count_call.new.self in
-    record {
-      promised = found_running g.S.Shelf.table g.S.Shelf.sound c.args.self.now (record { shelf = c.read.new.self; count = before.count; events = before.events; used = before.used }) c.args.bay (refuses_read c.args.bay c.args.place) (Read c.args.bay c.args.place) (stoppable_read c.args.bay c.args.place) none before h refl refl c.read.result c.read.ensures;
-      counts = counts_none g.S.Shelf.table g.S.Shelf.sound c.args.self.now (record { shelf = c.read.new.self; count = before.count; events = before.events; used = before.used }) (refuses_read c.args.bay c.args.place s) none h.count h.events h.used;
-      stops = not_stopped g.S.Shelf.table g.S.Shelf.sound c.args.self.now (record { shelf = c.read.new.self; count = before.count; events = before.events; used = before.used }) c.args.bay (refuses_read c.args.bay c.args.place) (Read c.args.bay c.args.place) (stoppable_read c.args.bay c.args.place) none before h refl c.read.result;
-    }
+pub returns-clause-promised : goal.returns-clause-promised
+returns-clause-promised g c =
+    let none = tested_read (g.S.Shelf.table c.args.self.now.shelf) _ _ c.shape.ensures c.from.ensures c.args.bay c.args.place c.in_ok-check_cell.ensures in
+    found_running g.S.Shelf.table g.S.Shelf.sound c.args.self.now (record { shelf = c.read.new.self; schedule = c.count_call.new.self }) c.args.bay (refuses_read c.args.bay c.args.place) (Read c.args.bay c.args.place) (stoppable_read c.args.bay c.args.place) none
+    c.in_ok-count_call.ensures c.read.result c.read.ensures
