@@ -32,12 +32,11 @@ pub enum Answer {
     Exchanged {
         bay: u32,
     },
-    // The words from the first place on. A lost place has mark 0, and there are so many others.
+    // The words from the first place on, none where a place is lost, and how many came.
     Fetched {
         bay: u32,
         first: u32,
-        words: Vec<u32>,
-        marks: Vec<u8>,
+        words: Vec<Option<u32>>,
         found: usize,
     },
     // The lost cells of so many places from the first on.
@@ -49,26 +48,22 @@ pub enum Answer {
     Ended,
 }
 
-// The words of places with blanks between them, or `lost` where the mark is 0.
+// The words of places with blanks between them, and `lost` where there is none.
 #[derive(Clone, Copy)]
-struct Places<'a> {
-    words: &'a [u32],
-    marks: &'a [u8],
-}
+struct Places<'a>(&'a [Option<u32>]);
 
 impl fmt::Display for Places<'_> {
     fn fmt<W: fmt::Write>(&self, f: &mut fmt::Formatter<W>) -> fmt::Result {
-        if self.words.is_empty() {
+        if self.0.is_empty() {
             return write!(f, "no places");
         }
-        for (i, (word, mark)) in self.words.iter().zip(self.marks.iter()).enumerate() {
+        for (i, place) in self.0.iter().enumerate() {
             if i > 0 {
                 write!(f, " ")?;
             }
-            if *mark == 0 {
-                write!(f, "lost")?;
-            } else {
-                write!(f, "{word}")?;
+            match place {
+                Some(word) => write!(f, "{word}")?,
+                None => write!(f, "lost")?,
             }
         }
         Ok(())
@@ -85,9 +80,7 @@ impl fmt::Display for LostCells<'_> {
         write!(f, "lost {found}")?;
         for (i, cell) in self.0.iter().enumerate() {
             let before = if i == 0 { ":" } else { "," };
-            let bay = cell.bay;
-            let place = cell.place;
-            write!(f, "{before} bay {bay} place {place}")?;
+            write!(f, "{before} bay {} place {}", cell.bay, cell.place)?;
         }
         Ok(())
     }
@@ -128,10 +121,9 @@ impl fmt::Display for Answer {
                 bay,
                 first,
                 words,
-                marks,
                 found,
             } => {
-                let places = Places { words, marks };
+                let places = Places(words);
                 write!(f, "bay {bay} from place {first}: {places}, words {found}")
             }
             Answer::Surveyed { first, count, lost } => {

@@ -62,11 +62,15 @@ fn fetch_run<S: Shelf>(
     let mut words = vec![in heap; 0u32; room]?;
     let mut marks = vec![in heap; 0u8; room]?;
     let found = fetch(shelf, bay as usize, first as usize, &mut words, &mut marks)?;
+    let words = words
+        .iter()
+        .zip(marks.iter())
+        .map(|(word, mark)| if *mark == 1 { Some(*word) } else { None })
+        .collect(heap)?;
     Ok(Answer::Fetched {
         bay,
         first,
         words,
-        marks,
         found,
     })
 }

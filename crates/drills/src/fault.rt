@@ -47,14 +47,8 @@ impl fmt::Display for Fault {
         match *self {
             Fault::Text(fault) => write!(f, "{fault}"),
             Fault::PlacesOutOfRange => write!(f, "a drill has 1 to 65535 places"),
-            Fault::Refused(refusal) => {
-                let number = refusal.number();
-                write!(f, "refused by {number}: {refusal}")
-            }
-            Fault::Overfull(overfull) => {
-                let number = overfull.number();
-                write!(f, "refused by {number}: {overfull}")
-            }
+            Fault::Refused(refusal) => write!(f, "refused by {}: {refusal}", refusal.number()),
+            Fault::Overfull(overfull) => write!(f, "refused by {}: {overfull}", overfull.number()),
             Fault::Memory => write!(f, "out of memory"),
         }
     }

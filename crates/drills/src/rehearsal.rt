@@ -2,10 +2,11 @@
 use crate::answer::Answer;
 use crate::calls::take_call;
 use crate::fault::Fault;
-use crate::script::Script;
 use layers::{Drill, Pair};
+use script::Script;
 use shelf::{Serviceable, Shelf};
 use std::alloc::Global;
+use std::io::BufRead;
 use trays::{ImageTray, Tray, blank_image, blank_words};
 
 // The limit of a drill's shelf. Image trays have no other.
@@ -26,7 +27,7 @@ struct Memory {
 impl Memory {
     // All places are blank.
     fn blank(heap: Global, places: u32) -> Result<Memory, Fault> {
-        if places < 1 || places > MOST_PLACES {
+        if !(1..=MOST_PLACES).contains(&places) {
             return Err(Fault::PlacesOutOfRange);
         }
         Ok(Memory {
@@ -39,9 +40,9 @@ impl Memory {
 }
 
 // Takes the lines up to the end of the drill, or of the script, on the drill's shelf.
-fn take_lines<A: Serviceable, B: Serviceable>(
+fn take_lines<R: BufRead, A: Serviceable, B: Serviceable>(
     rt: &HostRuntime,
-    script: &mut Script,
+    script: &mut Script<R>,
     shelf: &mut Pair<Drill<A>, Drill<B>>,
 ) -> anyhow::Result<()> {
     let (bays, places, limit) = shelf.shape();
@@ -49,14 +50,12 @@ fn take_lines<A: Serviceable, B: Serviceable>(
         "drill: bays {bays}, places {places}, limit {limit}; bays 0 and 1 are trays, bays 2 and 3 image trays"
     )?;
     for _ in 0..u64::MAX {
-        if !script.next()? {
+        if !script.advance()? {
             break;
         }
-        match take_call(rt.alloc(), shelf, script.line()) {
-            Ok(None) => {}
+        match take_call(rt.alloc(), shelf, &script.line) {
             Ok(Some(Answer::Ended)) => break,
-            Ok(Some(answer)) => println!(rt; "{answer}")?,
-            Err(fault) => script.refuse(rt, fault)?,
+            said => script.tell(rt, said)?,
         }
     }
     rt.println(Answer::Ended)?;
@@ -64,7 +63,11 @@ fn take_lines<A: Serviceable, B: Serviceable>(
 }
 
 // Takes the lines of a drill on a shelf over this memory.
-fn on_shelf(rt: &HostRuntime, script: &mut Script, mut memory: Memory) -> anyhow::Result<()> {
+fn on_shelf<R: BufRead>(
+    rt: &HostRuntime,
+    script: &mut Script<R>,
+    mut memory: Memory,
+) -> anyhow::Result<()> {
     let trays = Pair::new(
         Tray::new(&mut memory.first, LIMIT),
         Tray::new(&mut memory.second, LIMIT),
@@ -78,7 +81,11 @@ fn on_shelf(rt: &HostRuntime, script: &mut Script, mut memory: Memory) -> anyhow
 }
 
 // Runs the drill that a line begins. Its lines follow in the script.
-pub fn rehearse(rt: &HostRuntime, script: &mut Script, places: u32) -> anyhow::Result<()> {
+pub fn rehearse<R: BufRead>(
+    rt: &HostRuntime,
+    script: &mut Script<R>,
+    places: u32,
+) -> anyhow::Result<()> {
     match Memory::blank(rt.alloc(), places) {
         Ok(memory) => on_shelf(rt, script, memory),
         Err(fault) => script.refuse(rt, fault),
