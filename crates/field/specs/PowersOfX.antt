@@ -1,5 +1,5 @@
 -- The powers of x, and the tables of them and of their logarithms, over the width: each nonzero code is a power.
-use Rattle.std.specs.Prelude.{◌≡◌, ℕ, zero, suc, ◌+◌, ◌-◌, ◌*◌, ◌^◌, ◌<◌, Bool, true, false, ◌&&◌, T, ◌≢◌, List, [], ◌∷◌, ◌==◌, nat_lt, slice_index, refl}
+use Rattle.std.specs.Prelude.{◌≡◌, ℕ, zero, suc, ◌+◌, ◌-◌, ◌*◌, ◌^◌, ◌<◌, Bool, true, false, ◌&&◌, T, ◌≢◌, List, [], ◌∷◌, ◌==◌, nat_lt, length, slice_index, refl}
 use Rattle.std.proofs.Common.{sym, ◌∙◌, add-zero, zero-add, add-suc, suc-add, eqb→eq, ltb→lt}
 use Rattle.std.proofs.Math.Path.{ap}
 use native.Mathlib.Omega.{arith}
@@ -41,6 +41,26 @@ logged top exp log (suc a) = nat_lt (slice_index log (suc a)) top && slice_index
 -- the same of the codes below n
 abbrev pub all_logged : ℕ → List ℕ → List ℕ → ℕ → Bool
 all_logged top exp log n = all (logged top exp log) n
+
+-- a list of n powers has length n, by induction
+length-powers_from : (w m n x : ℕ) → length (powers_from w m n x) ≡ n
+unfolding powers_from
+length-powers_from w m zero x = refl
+length-powers_from w m (suc n) x = ap suc (length-powers_from w m n (mul_mod w m 2 x))
+
+-- and so has one of n places
+length-places_from : (exp : List ℕ) (n x : ℕ) → length (places_from exp n x) ≡ n
+unfolding places_from
+length-places_from exp zero x = refl
+length-places_from exp (suc n) x = ap suc (length-places_from exp n (suc x))
+
+-- so the table of powers has an entry for each sum of two logarithms
+pub powers_length : (w m : ℕ) → length (powers_table w m) ≡ 2 * (2 ^ w - 1) - 1
+powers_length w m = length-powers_from w m (2 * (2 ^ w - 1) - 1) 1
+
+-- and that of logarithms one for each code
+pub logs_length : (w m : ℕ) → length (logs_table w m) ≡ 2 ^ w
+logs_length w m = length-places_from (powers_table w m) (2 ^ w) 0
 
 pub record Tables (w m : ℕ) : Type 0 where
   pub logs : T (all_logged (2 ^ w - 1) (powers_table w m) (logs_table w m) (2 ^ w))

@@ -1,4 +1,4 @@
-ghost use Rattle.std.specs.Prelude.{◌≡◌, ◌%◌};
+ghost use Rattle.std.specs.Prelude.{◌≡◌, ℕ, ◌%◌};
 ghost use Rattle.field.specs.Arithmetic.{Arithmetic, Lawful, inverse_of};
 
 // A finite field. Its elements are the codes 0 to ORDER - 1; code 0 is zero and code 1 is one.
@@ -6,12 +6,17 @@ ghost use Rattle.field.specs.Arithmetic.{Arithmetic, Lawful, inverse_of};
 pub trait Field {
     const ORDER: u32;
 
+    ghost ORDER: { ℕ };
+
     // What the calls compute, on numbers.
     ghost arithmetic: { Arithmetic };
 
-    // The order, for generic code: a contract cannot name the associated constant of a type parameter.
+    // How many codes there are.
     fn size() -> u32
-        ensures { result ≡ arithmetic.order };
+        ensures { result ≡ arithmetic.order }
+    {
+        Self::ORDER
+    }
 
     fn sum(a: u32, b: u32) -> u32
         ensures { result ≡ arithmetic.add (a % arithmetic.order) (b % arithmetic.order) };
@@ -25,6 +30,8 @@ pub trait Field {
     // None for zero alone.
     fn inverse(a: u32) -> Option<u32>
         ensures { result ≡ inverse_of arithmetic (a % arithmetic.order) };
+
+    ghost order_is: { ORDER ≡ arithmetic.order };
 
     ghost lawful: { Lawful arithmetic };
 }

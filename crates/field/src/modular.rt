@@ -1,4 +1,4 @@
-ghost use Rattle.std.specs.Prelude.{◌≡◌, ◌<◌, ◌≢◌};
+ghost use Rattle.std.specs.Prelude.{◌≡◌, ◌<◌, ◌≢◌, refl};
 ghost use Rattle.field.specs.Fields.{count};
 ghost use Rattle.field.specs.LawfulFields as lawful_fields;
 
@@ -10,13 +10,13 @@ pub struct Count;
 impl Field for Count {
     const ORDER: u32 = 65_537;
 
+    ghost ORDER = { 65_537 };
+
     ghost arithmetic = { count };
 
-    ghost lawful = { lawful_fields.count };
+    ghost order_is = { refl };
 
-    fn size() -> u32 {
-        Self::ORDER
-    }
+    ghost lawful = { lawful_fields.count };
 
     fn sum(a: u32, b: u32) -> u32 {
         (a % Self::ORDER + b % Self::ORDER) % Self::ORDER
@@ -38,22 +38,23 @@ impl Field for Count {
 
 // The product of two codes.
 fn reduced_product(a: u32, b: u32) -> u32
-    requires { (a < 65_537) × (b < 65_537) }
+    requires { (a < count.order) × (b < count.order) }
     ensures { result ≡ count.mul a b }
 {
-    (a as u64 * b as u64 % 65_537) as u32
+    (u64::from(a) * u64::from(b) % u64::from(Count::ORDER)) as u32
 }
 
-// Divides 65,537 by what is left of `a` until 1 is left: `found` times `a` is always what is left, modulo 65,537.
+// Divides the order by what is left of `a` until 1 is left: `found` times `a` is always what is left, modulo the order.
+#[tactic(auto, using(crate::specs::Prime::prime, crate::specs::Residues::step))]
 fn count_inverse(a: u32) -> u32
-    requires { (a < 65_537) × (a ≢ 0) }
+    requires { (a < count.order) × (a ≢ 0) }
     ensures { result ≡ count.inv a }
 {
     let mut rest = a;
     let mut found = 1;
     while rest > 1 {
-        found = reduced_product(found, 65_537 - 65_537 / rest);
-        rest = 65_537 % rest;
+        found = reduced_product(found, Count::ORDER - Count::ORDER / rest);
+        rest = Count::ORDER % rest;
     }
     found
 }

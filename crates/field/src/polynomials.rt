@@ -1,8 +1,9 @@
-ghost use Rattle.std.specs.Prelude.{◌≡◌, ℕ, ◌-◌, ◌*◌, ◌%◌, ◌^◌, ◌<◌, ◌≢◌, bit_xor};
-ghost use Rattle.field.specs.Arithmetic.{inverse_of};
-ghost use Rattle.field.specs.Fields.{nibble, byte};
-ghost use Rattle.field.specs.Polynomials.{mul_mod, binary};
+#![tactic(auto, unfolding(crate::specs::Polynomials::mul_mod, crate::specs::Polynomials::carryless, crate::specs::Polynomials::remainder, crate::specs::PowersOfX::powers_from, crate::specs::PowersOfX::place, crate::specs::PowersOfX::places_from))]
+
+ghost use Rattle.std.specs.Prelude.{◌≡◌, ℕ, ◌-◌, ◌*◌, ◌^◌, ◌<◌, ◌≢◌, refl};
+ghost use Rattle.field.specs.Polynomials.{binary};
 ghost use Rattle.field.specs.Powers.{power_of_x, Cyclic};
+ghost use Rattle.field.specs.PowersOfX.{Tables, powers_table, logs_table};
 ghost use Rattle.field.specs.LawfulFields as lawful_fields;
 
 use crate::arithmetic::Field;
@@ -10,55 +11,89 @@ use crate::tables;
 
 // A field of binary polynomials of `width` coefficients modulo `modulus`, by the powers of x: each code but 0 is one.
 trait Binary {
+    // How many codes there are: 2 to the width.
+    const CODES: u32;
+
+    ghost CODES: { ℕ };
+
     ghost width: { ℕ };
 
     ghost modulus: { ℕ };
 
-    fn codes() -> u32
-        ensures { result ≡ 2 ^ width };
+    // The powers of x, once round and again up to the last sum of two logarithms.
+    fn powers() -> &'static [u8]
+        ensures { result.now ≡ powers_table width modulus };
+
+    // The power of x that each code is, and 0 for 0.
+    fn logs() -> &'static [u8]
+        ensures { result.now ≡ logs_table width modulus };
 
     // The power of x that `a` is.
+    #[tactic(auto, using(crate::specs::PowersOfX::logs_length, crate::specs::PowersOfX::log_below, crate::specs::PowersOfX::log_power))]
     fn log(a: u32) -> usize
         requires { (a < 2 ^ width) × (a ≢ 0) }
         ensures below { result < 2 ^ width - 1 }
-        ensures right { power_of_x width modulus result ≡ a };
+        ensures right { power_of_x width modulus result ≡ a }
+    {
+        usize::from(Self::logs()[a as usize])
+    }
 
     // x to the i.
+    #[tactic(auto, using(crate::specs::PowersOfX::powers_length, crate::specs::PowersOfX::power_at))]
     fn power(i: usize) -> u32
         requires { i < 2 * (2 ^ width - 1) - 1 }
-        ensures { result ≡ power_of_x width modulus i };
+        ensures { result ≡ power_of_x width modulus i }
+    {
+        u32::from(Self::powers()[i])
+    }
+
+    ghost codes_is: { CODES ≡ 2 ^ width };
 
     ghost cyclic: { Cyclic width modulus };
+
+    ghost tables: { Tables width modulus };
 }
 
-fn binary_sum<B: Binary>(a: u32, b: u32) -> u32
-    ensures { result ≡ bit_xor (a % 2 ^ B.Binary.width) (b % 2 ^ B.Binary.width) }
-{
-    (a ^ b) % B::codes()
-}
+// Sum and difference are exclusive or; a product adds logarithms, and an inverse takes one from a whole turn.
+impl<B: Binary> Field for B {
+    const ORDER: u32 = B::CODES;
 
-fn binary_product<B: Binary>(a: u32, b: u32) -> u32
-    ensures { result ≡ mul_mod B.Binary.width B.Binary.modulus (a % 2 ^ B.Binary.width) (b % 2 ^ B.Binary.width) }
-{
-    let codes = B::codes();
-    let a = a % codes;
-    let b = b % codes;
-    if a == 0 || b == 0 {
-        0
-    } else {
-        B::power(B::log(a) + B::log(b))
+    ghost ORDER = { B.CODES };
+
+    ghost arithmetic = { binary B.width B.modulus };
+
+    ghost order_is = { B.codes_is };
+
+    ghost lawful = { (B.cyclic).laws };
+
+    #[tactic(auto, using(std::proofs::lemmas::Nat::xor_mod))]
+    fn sum(a: u32, b: u32) -> u32 {
+        (a ^ b) % B::CODES
     }
-}
 
-fn binary_inverse<B: Binary>(a: u32) -> Option<u32>
-    ensures { result ≡ inverse_of (binary B.Binary.width B.Binary.modulus) (a % 2 ^ B.Binary.width) }
-{
-    let codes = B::codes();
-    let a = a % codes;
-    if a == 0 {
-        None
-    } else {
-        Some(B::power(codes as usize - 1 - B::log(a)))
+    fn difference(a: u32, b: u32) -> u32 {
+        Self::sum(a, b)
+    }
+
+    #[tactic(auto, using(crate::specs::BinaryField::zero_left, crate::specs::BinaryField::zero_right, crate::specs::BinaryField::product_is))]
+    fn product(a: u32, b: u32) -> u32 {
+        let a = a % B::CODES;
+        let b = b % B::CODES;
+        if a == 0 || b == 0 {
+            0
+        } else {
+            B::power(B::log(a) + B::log(b))
+        }
+    }
+
+    #[tactic(auto, using(crate::specs::BinaryField::inverse_is, crate::specs::Laws::some_elsewhere))]
+    fn inverse(a: u32) -> Option<u32> {
+        let a = a % B::CODES;
+        if a == 0 {
+            None
+        } else {
+            Some(B::power(B::CODES as usize - 1 - B::log(a)))
+        }
     }
 }
 
@@ -66,50 +101,26 @@ fn binary_inverse<B: Binary>(a: u32) -> Option<u32>
 pub struct Nibble;
 
 impl Binary for Nibble {
+    const CODES: u32 = 16;
+
+    ghost CODES = { 16 };
+
     ghost width = { 4 };
 
     ghost modulus = { 0x13 };
 
+    ghost codes_is = { refl };
+
     ghost cyclic = { lawful_fields.nibble };
 
-    fn codes() -> u32 {
-        16
+    ghost tables = { lawful_fields.nibble_tables };
+
+    fn powers() -> &'static [u8] {
+        tables::NIBBLE_POWERS
     }
 
-    fn log(a: u32) -> usize {
-        tables::NIBBLE_LOGS[a as usize] as usize
-    }
-
-    fn power(i: usize) -> u32 {
-        tables::NIBBLE_POWERS[i] as u32
-    }
-}
-
-impl Field for Nibble {
-    const ORDER: u32 = 16;
-
-    ghost arithmetic = { nibble };
-
-    ghost lawful = { (lawful_fields.nibble).laws };
-
-    fn size() -> u32 {
-        Self::ORDER
-    }
-
-    fn sum(a: u32, b: u32) -> u32 {
-        binary_sum::<Nibble>(a, b)
-    }
-
-    fn difference(a: u32, b: u32) -> u32 {
-        binary_sum::<Nibble>(a, b)
-    }
-
-    fn product(a: u32, b: u32) -> u32 {
-        binary_product::<Nibble>(a, b)
-    }
-
-    fn inverse(a: u32) -> Option<u32> {
-        binary_inverse::<Nibble>(a)
+    fn logs() -> &'static [u8] {
+        tables::NIBBLE_LOGS
     }
 }
 
@@ -117,49 +128,25 @@ impl Field for Nibble {
 pub struct Byte;
 
 impl Binary for Byte {
+    const CODES: u32 = 256;
+
+    ghost CODES = { 256 };
+
     ghost width = { 8 };
 
     ghost modulus = { 0x11d };
 
+    ghost codes_is = { refl };
+
     ghost cyclic = { lawful_fields.byte };
 
-    fn codes() -> u32 {
-        256
+    ghost tables = { lawful_fields.byte_tables };
+
+    fn powers() -> &'static [u8] {
+        tables::BYTE_POWERS
     }
 
-    fn log(a: u32) -> usize {
-        tables::BYTE_LOGS[a as usize] as usize
-    }
-
-    fn power(i: usize) -> u32 {
-        tables::BYTE_POWERS[i] as u32
-    }
-}
-
-impl Field for Byte {
-    const ORDER: u32 = 256;
-
-    ghost arithmetic = { byte };
-
-    ghost lawful = { (lawful_fields.byte).laws };
-
-    fn size() -> u32 {
-        Self::ORDER
-    }
-
-    fn sum(a: u32, b: u32) -> u32 {
-        binary_sum::<Byte>(a, b)
-    }
-
-    fn difference(a: u32, b: u32) -> u32 {
-        binary_sum::<Byte>(a, b)
-    }
-
-    fn product(a: u32, b: u32) -> u32 {
-        binary_product::<Byte>(a, b)
-    }
-
-    fn inverse(a: u32) -> Option<u32> {
-        binary_inverse::<Byte>(a)
+    fn logs() -> &'static [u8] {
+        tables::BYTE_LOGS
     }
 }
