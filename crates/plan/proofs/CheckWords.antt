@@ -1,19 +1,20 @@
 -- All checks of a place: one more of them, and how they follow the words when each is moved.
-use Rattle.std.proofs.Common.{◌≡◌, ℕ, zero, suc, ◌+◌, ◌%◌, ◌<◌, List, [], ◌∷◌, ◌++◌, map, length, get_or, take, set, sym, refl, ap, ◌∙◌, ap₂, add-zero, mod-eq_of_lt, zero-add, arith}
-use Rattle.std.proofs.lemmas.List.{map-append, take_more, length-take-le}
+use Rattle.std.proofs.Common.{◌≡◌, ℕ, zero, suc, ◌+◌, ◌%◌, ◌<◌, List, [], ◌∷◌, ◌++◌, map, length, get_or, take, set, sym, refl, ap, ◌∙◌, ap₂, add-zero, add-one, mod-eq_of_lt, zero-add, arith}
+use Rattle.std.proofs.lemmas.List.{take_more, length-take-le}
+use Rattle.std.proofs.lemmas.List.FromFn.{map-range_with_len_more}
+use Rattle.std.specs.List.{range_with_len}
 use Rattle.field.specs.Arithmetic.{Arithmetic, Lawful}
 use Rattle.plan.specs.Coefficients.{Coefficients, Fitting}
-use Rattle.plan.specs.Rows.{count_from, row, Vector, codes, check_on, checks_on, moved, all_moved}
+use Rattle.plan.specs.Rows.{row, Vector, codes, check_on, checks_on, moved, all_moved}
 use Rattle.plan.proofs.Dots.{Codes, vector_codes, dot_below}
-use Rattle.plan.proofs.Rows.{count_more, row-codes, moved_follows}
+use Rattle.plan.proofs.Rows.{row-codes, moved_follows}
 
 -- the checks below number i
 abbrev pub checks_to : Arithmetic → Coefficients → List ℕ → ℕ → List ℕ
-checks_to k x v i = map (λ i. check_on k x i v) (count_from 0 i)
+checks_to k x v i = map (λ i. check_on k x i v) (range_with_len 0 i)
 
 -- none below number 0
 pub no_checks : (k : Arithmetic) (x : Coefficients) (v : List ℕ) → [] ≡ checks_to k x v 0
-unfolding count_from
 no_checks k x v = refl
 
 -- those below m are all
@@ -23,8 +24,7 @@ all_checks k x v = refl
 
 -- one check more
 pub checks_more : (k : Arithmetic) (x : Coefficients) (v : List ℕ) (i : ℕ) → checks_to k x v (i + 1) ≡ checks_to k x v i ++ check_on k x i v ∷ []
-checks_more k x v i =
-    ap (map (λ i. check_on k x i v)) (count_more i) ∙ map-append (λ i. check_on k x i v) (count_from 0 i) (i ∷ [])
+checks_more k x v i = map-range_with_len_more (λ i. check_on k x i v) 0 i i (zero-add i)
 
 -- the last of the moved checks
 moved_last : (k : Arithmetic) (x : Coefficients) (i j old new : ℕ) (cs : List ℕ) (c : ℕ) → all_moved k x i j old new (cs ++ c ∷ []) ≡ all_moved k x i j old new cs ++ moved k x (i + length cs) j c old new ∷ []
@@ -48,22 +48,20 @@ codes_same k (c ∷ cs) h = ap₂ (λ y ys. y ∷ ys) (mod-eq_of_lt (h 0)) (code
 
 module _ (k : Arithmetic) (l : Lawful k) (x : Coefficients) (h : Fitting k x) (v : List ℕ) (hv : Vector k x.n v) where
   -- the checks of a vector are codes
-  checks_same_from : (i n : ℕ) → codes k (map (λ i. check_on k x i v) (count_from i n)) ≡ map (λ i. check_on k x i v) (count_from i n)
-  unfolding count_from
+  checks_same_from : (i n : ℕ) → codes k (map (λ i. check_on k x i v) (range_with_len i n)) ≡ map (λ i. check_on k x i v) (range_with_len i n)
   checks_same_from i zero = refl
   checks_same_from i (suc n) =
       ap₂ (λ y ys. y ∷ ys)
       (mod-eq_of_lt (dot_below k l (row x (x.n + i)) v (row-codes k l x h (x.n + i)) (vector_codes k l x.n v hv)))
-      (checks_same_from (suc i) n)
+      (checks_same_from (i + 1) n)
 
   -- each moved check is the check on the changed vector
-  moved_from : (j new : ℕ) → j < x.n → new < k.order → (i n : ℕ) → all_moved k x i j (get_or v j 0) new (map (λ i. check_on k x i v) (count_from i n)) ≡ map (λ i. check_on k x i (set v j new)) (count_from i n)
-  unfolding count_from
+  moved_from : (j new : ℕ) → j < x.n → new < k.order → (i n : ℕ) → all_moved k x i j (get_or v j 0) new (map (λ i. check_on k x i v) (range_with_len i n)) ≡ map (λ i. check_on k x i (set v j new)) (range_with_len i n)
   moved_from j new d low i zero = refl
   moved_from j new d low i (suc n) =
       ap₂ (λ y ys. y ∷ ys)
       (sym (moved_follows k l x h i j (check_on k x i v) (get_or v j 0) new low v hv d refl refl))
-      (moved_from j new d low (suc i) n)
+      (ap (λ s. all_moved k x s j (get_or v j 0) new (map (λ i. check_on k x i v) (range_with_len (i + 1) n))) (sym (add-one i)) ∙ moved_from j new d low (i + 1) n)
 
   -- so moving the checks gives what computing them afresh gives
   pub moved_afresh : (j new : ℕ) → j < x.n → new < k.order → all_moved k x 0 j (get_or v j 0 % k.order) (new % k.order) (codes k (checks_on k x v)) ≡ checks_on k x (set v j new)

@@ -1,7 +1,9 @@
 -- What the laws of a field give of the sums of products: their bound, one changed column, and the sum one column at a time.
-use Rattle.std.proofs.Common.{◌≡◌, ℕ, zero, suc, ◌+◌, ◌%◌, ◌<◌, ◌≤◌, ◌⊎◌, List, [], ◌∷◌, length, get_or, drop, set, sym, refl, ap, ◌∙◌, subst, inl, inr, ⊎_elim, mod-eq_of_lt, arith, get_or-drop}
+use Rattle.std.proofs.Common.{◌≡◌, ℕ, zero, suc, ◌+◌, ◌%◌, ◌<◌, List, [], ◌∷◌, length, get_or, set, map, sym, refl, ap, ◌∙◌, subst, inl, inr, mod-eq_of_lt, arith}
 use Rattle.std.proofs.lemmas.Bool.{cases_lt}
-use Rattle.std.proofs.lemmas.List.{drop_more, drop_all, get_or_past, get_or-map, length-map}
+use Rattle.std.proofs.lemmas.List.{get_or_past, get_or-map, length-map}
+use Rattle.std.proofs.lemmas.List.FromFn.{length-map-range_with_len, get_or-map-range_with_len}
+use Rattle.std.specs.List.{fold, zip, range_with_len}
 use Rattle.field.specs.Arithmetic.{Arithmetic, Lawful}
 use Rattle.field.specs.Laws.{zero_below, code, add-zero}
 use Rattle.plan.specs.Rows.{dot, Vector, codes}
@@ -9,26 +11,6 @@ use Rattle.plan.specs.Rows.{dot, Vector, codes}
 -- every entry is a code, those past the end too
 abbrev pub Codes : Arithmetic → List ℕ → Type 0
 Codes k r = (j : ℕ) → get_or r j 0 < k.order
-
--- one column
-dot_cons : (k : Arithmetic) (c v : ℕ) (cs vs : List ℕ) → dot k (c ∷ cs) (v ∷ vs) ≡ k.add (k.mul c v) (dot k cs vs)
-unfolding dot
-dot_cons k c v cs vs = refl
-
--- an empty row gives zero
-none : (k : Arithmetic) (vs : List ℕ) → dot k [] vs ≡ 0
-unfolding dot
-none k vs = refl
-
--- and so does any row on no words
-dot-none : (k : Arithmetic) (rs : List ℕ) → dot k rs [] ≡ 0
-unfolding dot
-dot-none k [] = refl
-dot-none k (r ∷ rs) = refl
-
--- past the end of the row, or of the vector, nothing is added
-dot_nil : (k : Arithmetic) (rs vs : List ℕ) → (rs ≡ []) ⊎ (vs ≡ []) → dot k rs vs ≡ 0
-dot_nil k rs vs = ⊎_elim (λ e. ap (λ y. dot k y vs) e ∙ none k vs) (λ e. ap (dot k rs) e ∙ dot-none k rs)
 
 module _ (k : Arithmetic) (l : Lawful k) where
   -- past the end the default 0 is a code
@@ -88,35 +70,38 @@ module _ (k : Arithmetic) (l : Lawful k) where
       ap (k.add (k.mul c v)) (dot-set cs vs j new (omega arith) (omega arith) hn hr' hv')
       ∙ sym (l.add_assoc (k.mul c v) (dot k cs vs) m (l.mul_below c v (hr 0) (hv 0)) (dot_below cs vs hr' hv') hm)
 
-module _ (k : Arithmetic) (l : Lawful k) (r v : List ℕ) (hr : Codes k r) (hv : Codes k v) where
-  codes-drop : (s : List ℕ) (i : ℕ) → Codes k s → Codes k (drop i s)
-  codes-drop s i h j = subst (λ (y : ℕ). y < k.order) (sym (get_or-drop i s j 0)) (h (i + j))
+-- one product more, of the coefficient in column p.0 and the word p.1, as the calls of the field add it
+abbrev pub added : Arithmetic → (ℕ → ℕ) → ℕ → ℕ × ℕ → ℕ
+added k f sum p = k.add (sum % k.order) (k.mul (f p.0 % k.order) (p.1 % k.order) % k.order)
 
-  -- One more column, as the calls of the field add it: the sum so far and what is left stay together the whole.
-  pub dot_more : (j acc new prod c w : ℕ) → j < length r → j < length v → acc < k.order → new ≡ k.add (acc % k.order) (prod % k.order) → prod ≡ k.mul (c % k.order) (w % k.order) → c ≡ get_or r j 0 → get_or v j 0 ≡ w % k.order → (new < k.order) × (k.add new (dot k (drop (j + 1) r) (drop (j + 1) v)) ≡ k.add acc (dot k (drop j r) (drop j v)))
-  dot_more j acc new prod c w dr dv low en ep ec ew =
+module _ (k : Arithmetic) (l : Lawful k) (f : ℕ → ℕ) (low : (j : ℕ) → f j < k.order) where
+  -- coefficients are codes
+  coefficients-codes : (i n : ℕ) → Codes k (map f (range_with_len i n))
+  coefficients-codes i n =
+      codes_known k l (map f (range_with_len i n)) n (length-map-range_with_len f i n)
+      (λ j d. subst (λ (y : ℕ). y < k.order) (sym (get_or-map-range_with_len f i n j (i + j) 0 d refl)) (low (i + j)))
+
+  -- The columns from i on, added to a sum one after the other, add their whole sum of products, by associativity.
+  dot_added : (sum i n : ℕ) (ws : List ℕ) → sum < k.order → fold (added k f) sum (zip (range_with_len i n) ws) ≡ k.add sum (dot k (map f (range_with_len i n)) (codes k ws))
+  unfolding dot
+  dot_added sum i zero ws h = sym (add-zero k l sum h)
+  dot_added sum i (suc n) [] h = sym (add-zero k l sum h)
+  dot_added sum i (suc n) (w ∷ ws) h =
       let q = k.order in
-      let a = get_or r j 0 in
-      let b = get_or v j 0 in
-      let m = k.mul a b in
-      let hm : m < q = l.mul_below a b (hr j) (hv j) in
-      let is-prod : prod ≡ m = ep ∙ ap (λ y. k.mul (y % q) (w % q)) ec ∙ ap (λ y. k.mul y (w % q)) (mod-eq_of_lt (hr j)) ∙ ap (k.mul a) (sym ew) in
-      let is : new ≡ k.add acc m = en ∙ ap (λ y. k.add y (prod % q)) (mod-eq_of_lt low) ∙ ap (λ y. k.add acc (y % q)) is-prod ∙ ap (k.add acc) (mod-eq_of_lt hm) in
-      let rest = dot k (drop (j + 1) r) (drop (j + 1) v) in
-      let hrest : rest < q = dot_below k l (drop (j + 1) r) (drop (j + 1) v) (codes-drop r (j + 1) hr) (codes-drop v (j + 1) hv) in
-      let whole : dot k (drop j r) (drop j v) ≡ k.add m rest =
-      ap (λ y. dot k y (drop j v)) (drop_more r j 0 dr)
-      ∙ ap (dot k (a ∷ drop (j + 1) r)) (drop_more v j 0 dv)
-      ∙ dot_cons k a b (drop (j + 1) r) (drop (j + 1) v) in (
-        subst (λ (y : ℕ). y < q) (sym is) (l.add_below acc m low hm),
-        ap (λ y. k.add y rest) is ∙ l.add_assoc acc m rest low hm hrest ∙ ap (k.add acc) (sym whole),
-      )
+      let m = k.mul (f i) (w % q) in
+      let hm : m < q = l.mul_below (f i) (w % q) (low i) (code k l w) in
+      let rest = dot k (map f (range_with_len (i + 1) n)) (codes k ws) in
+      let hrest : rest < q = dot_below k l (map f (range_with_len (i + 1) n)) (codes k ws) (coefficients-codes (i + 1) n) (codes-codes k l ws) in
+      let is : added k f sum (i, w) ≡ k.add sum m =
+      ap (λ y. k.add y (k.mul (f i % q) (w % q) % q)) (mod-eq_of_lt h)
+      ∙ ap (λ y. k.add sum (k.mul y (w % q) % q)) (mod-eq_of_lt (low i))
+      ∙ ap (k.add sum) (mod-eq_of_lt hm) in
+      dot_added (added k f sum (i, w)) (i + 1) n ws (subst (λ (y : ℕ). y < q) (sym is) (l.add_below sum m h hm))
+      ∙ ap (λ y. k.add y rest) is
+      ∙ l.add_assoc sum m rest h hm hrest
 
-  -- Before the first column the sum is 0, and nothing is behind it.
-  pub dot_start : k.add 0 (dot k (drop 0 r) (drop 0 v)) ≡ dot k r v
-  dot_start = l.zero-add (dot k r v) (dot_below k l r v hr hv)
-
-  -- After the last column nothing is left.
-  pub dot_end : (j acc : ℕ) → (length r ≤ j) ⊎ (length v ≤ j) → acc < k.order → k.add acc (dot k (drop j r) (drop j v)) ≡ acc
-  dot_end j acc h low =
-      ap (k.add acc) (dot_nil k (drop j r) (drop j v) (⊎_elim (λ d. inl (drop_all j r d)) (λ d. inr (drop_all j v d)) h)) ∙ add-zero k l acc low
+  -- From zero on the sum is what the row of these coefficients gives.
+  pub dot_folded : (n : ℕ) (ws : List ℕ) → fold (added k f) 0 (zip (range_with_len 0 n) ws) ≡ dot k (map f (range_with_len 0 n)) (codes k ws)
+  dot_folded n ws =
+      dot_added 0 0 n ws (zero_below k l)
+      ∙ l.zero-add _ (dot_below k l (map f (range_with_len 0 n)) (codes k ws) (coefficients-codes 0 n) (codes-codes k l ws))

@@ -1,47 +1,24 @@
 -- The row of each bay, column by column, and how a moved check follows the words.
-use Rattle.std.proofs.Common.{◌≡◌, ℕ, zero, suc, ◌+◌, ◌-◌, ◌%◌, ◌<◌, cond, eqb, ltb, [], ◌∷◌, ◌++◌, map, length, get_or, sym, refl, ap, ◌∙◌, subst, inl, inr, add-zero, mod-eq_of_lt, zero-add, add-one, arith}
+use Rattle.std.proofs.Common.{◌≡◌, ℕ, ◌+◌, ◌-◌, ◌%◌, ◌<◌, cond, eqb, ltb, List, map, length, get_or, sym, ap, ◌∙◌, subst, inl, inr, mod-eq_of_lt, arith}
 use Rattle.std.proofs.lemmas.Bool.{cond-true, cond-false, cases_Bool, cases_lt, lt-ltb, le-ltb}
 use Rattle.std.proofs.lemmas.List.{get_or_past}
+use Rattle.std.proofs.lemmas.List.FromFn.{length-map-range_with_len, get_or-map-range_with_len}
+use Rattle.std.specs.List.{fold, zip, range_with_len}
 use Rattle.field.specs.Arithmetic.{Arithmetic, Lawful}
 use Rattle.field.specs.Laws.{zero_below, one_below, code}
 use Rattle.plan.specs.Coefficients.{Coefficients, Fitting}
-use Rattle.plan.specs.Rows.{count_from, entry, row, moved, Follows}
-use Rattle.plan.proofs.Dots.{Codes, vector_codes, dot-set}
-
--- the last of the numbers from i on
-count_last : (i n : ℕ) → count_from i (suc n) ≡ count_from i n ++ (i + n) ∷ []
-unfolding count_from
-count_last i zero = ap (λ y. y ∷ []) (sym (add-zero i))
-count_last i (suc n) =
-    ap (λ ys. i ∷ ys) (count_last (suc i) n)
-    ∙ ap (λ y. i ∷ (count_from (suc i) n ++ y ∷ [])) (let e : suc i + n ≡ i + suc n = omega arith in e)
-
--- one number more
-pub count_more : (n : ℕ) → count_from 0 (n + 1) ≡ count_from 0 n ++ n ∷ []
-count_more n = ap (count_from 0) (add-one n) ∙ count_last 0 n ∙ ap (λ y. count_from 0 n ++ y ∷ []) (zero-add n)
-
--- number j from i on is i + j
-get_or-count_from : (f : ℕ → ℕ) (i n j : ℕ) → j < n → get_or (map f (count_from i n)) j 0 ≡ f (i + j)
-unfolding count_from
-get_or-count_from f i zero j h = absurd (let z : ⊥ = omega arith in z)
-get_or-count_from f i (suc n) zero h = ap f (omega arith)
-get_or-count_from f i (suc n) (suc j) h = get_or-count_from f (suc i) n j (omega arith) ∙ ap f (omega arith)
-
--- and there are n
-length-count_from : (f : ℕ → ℕ) (i n : ℕ) → length (map f (count_from i n)) ≡ n
-unfolding count_from
-length-count_from f i zero = refl
-length-count_from f i (suc n) = ap suc (length-count_from f (suc i) n)
+use Rattle.plan.specs.Rows.{entry, row, dot, codes, check_on, moved, Follows}
+use Rattle.plan.proofs.Dots.{Codes, vector_codes, dot-set, added, dot_folded}
 
 -- a row has a column for each data bay
 pub row-length : (x : Coefficients) (b : ℕ) → length (row x b) ≡ x.n
 unfolding row
-row-length x b = length-count_from (entry x b) 0 x.n
+row-length x b = length-map-range_with_len (entry x b) 0 x.n
 
 -- its columns are the entries
 pub row_at : (x : Coefficients) (b j : ℕ) → j < x.n → get_or (row x b) j 0 ≡ entry x b j
 unfolding row
-row_at x b j h = get_or-count_from (entry x b) 0 x.n j h ∙ ap (entry x b) (omega arith)
+row_at x b j h = get_or-map-range_with_len (entry x b) 0 x.n j j 0 h (omega arith)
 
 -- the row of a data bay has one in its own column
 pub entry_data : (x : Coefficients) (b j : ℕ) → b < x.n → entry x b j ≡ cond (eqb b j) 1 0
@@ -54,6 +31,11 @@ unfolding entry
 entry_check x i j =
     cond-false (ltb (x.n + i) x.n) _ _ (le-ltb (x.n + i) x.n (omega arith))
     ∙ ap (λ b. x.f b j) (let e : x.n + i - x.n ≡ i = omega arith in e)
+
+-- so the row of check i is its coefficients
+pub check_row : (x : Coefficients) (i : ℕ) → row x (x.n + i) ≡ map (x.f i) (range_with_len 0 x.n)
+unfolding row
+check_row x i t = map (λ j. entry_check x i j t) (range_with_len 0 x.n)
 
 -- a column of the row of check i
 pub check_at : (x : Coefficients) (i j : ℕ) → j < x.n → get_or (row x (x.n + i)) j 0 ≡ x.f i j
@@ -98,3 +80,8 @@ module _ (k : Arithmetic) (l : Lawful k) (x : Coefficients) (h : Fitting k x) wh
       ∙ ap (λ y. k.add y (k.mul (get_or (row x (x.n + i)) j 0) (k.sub new (get_or v j 0)))) ec
       ∙ ap (λ y. k.add check (k.mul y (k.sub new (get_or v j 0)))) (check_at x i j d)
       ∙ ap (λ y. k.add check (k.mul (x.f i j) (k.sub new y))) eo
+
+  -- a fold over the words of the first columns, by the coefficients of check i, is the word of the check
+  pub folded_is : (i : ℕ) (ws : List ℕ) → fold (added k (x.f i)) 0 (zip (range_with_len 0 x.n) ws) ≡ check_on k x i (codes k ws)
+  folded_is i ws =
+      dot_folded k l (x.f i) (h.below i) x.n ws ∙ ap (λ r. dot k r (codes k ws)) (sym (check_row x i))

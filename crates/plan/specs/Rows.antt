@@ -1,20 +1,16 @@
 -- The row of each bay, and what a row gives on a data vector.
-use Rattle.std.specs.Prelude.{◌≡◌, ℕ, zero, suc, ◌+◌, ◌-◌, ◌%◌, ◌<◌, cond, List, [], ◌∷◌, map, length, ◌==◌, nat_lt, slice_index, slice_set}
+use Rattle.std.specs.Prelude.{◌≡◌, ℕ, suc, ◌+◌, ◌-◌, ◌%◌, ◌<◌, cond, List, [], ◌∷◌, map, length, ◌==◌, nat_lt, slice_index, slice_set}
+use Rattle.std.specs.List.{range_with_len}
 use Rattle.field.specs.Arithmetic.{Arithmetic}
 use Rattle.plan.specs.Coefficients.{Coefficients}
-
--- n numbers, from i on
-unfoldable pub count_from : ℕ → ℕ → List ℕ
-count_from i zero = []
-count_from i (suc n) = i ∷ count_from (suc i) n
 
 -- column j of the row of bay b: one in its own column for a data bay, the coefficient for a check bay
 unfoldable pub entry : Coefficients → ℕ → ℕ → ℕ
 entry x b j = cond (nat_lt b x.n) (cond (b == j) 1 0) (x.f (b - x.n) j)
 
 unfoldable pub row : Coefficients → ℕ → List ℕ
-unfolding entry count_from
-row x b = map (entry x b) (count_from 0 x.n)
+unfolding entry
+row x b = map (entry x b) (range_with_len 0 x.n)
 
 -- the field sum of the products, column by column; it stops at the shorter list
 unfoldable pub dot : Arithmetic → List ℕ → List ℕ → ℕ
@@ -37,8 +33,8 @@ check_on k x i v = dot k (row x (x.n + i)) v
 
 -- the word of each check on a data vector
 unfoldable pub checks_on : Arithmetic → Coefficients → List ℕ → List ℕ
-unfolding row entry count_from dot
-checks_on k x v = map (λ i. check_on k x i v) (count_from 0 x.m)
+unfolding row entry dot
+checks_on k x v = map (λ i. check_on k x i v) (range_with_len 0 x.m)
 
 -- Check i, moved from the old word of data bay j to the new one.
 abbrev pub moved : Arithmetic → Coefficients → ℕ → ℕ → ℕ → ℕ → ℕ → ℕ

@@ -9,16 +9,14 @@ use field::Field;
 pub fn check_word<P: Plan>(plan: &P, i: usize, words: &[u32]) -> u32
     ensures { result ≡ check_on P.F.Field.arithmetic (P.Plan.coefficients plan.now) i (codes P.F.Field.arithmetic words.now) }
 {
-    let columns = plan.data_bays().min(words.len());
-    let mut all = 0;
-    for j in 0..columns {
-        all = P::F::sum(all, P::F::product(plan.coefficient(i, j), words[j]));
-    }
-    all
+    (0..plan.data_bays()).zip(words).fold(0, |all, (j, word)| {
+        P::F::sum(all, P::F::product(plan.coefficient(i, j), *word))
+    })
 }
 
 // The word of check `i` after data bay `j` went from the old word to the new one: it moves by coefficient times
 // difference, and is what the new words give.
+#[tactic(auto, using(crate::proofs::Rows::moved_is, crate::proofs::Rows::moved_follows, field::specs::Laws::code))]
 pub fn moved_word<P: Plan>(plan: &P, i: usize, j: usize, check: u32, old: u32, new: u32) -> u32
     ensures value { result ≡ moved P.F.Field.arithmetic (P.Plan.coefficients plan.now) i j (check % P.F.Field.arithmetic.order) (old % P.F.Field.arithmetic.order) (new % P.F.Field.arithmetic.order) }
     ensures follows { Follows P.F.Field.arithmetic (P.Plan.coefficients plan.now) i j (check % P.F.Field.arithmetic.order) (old % P.F.Field.arithmetic.order) (new % P.F.Field.arithmetic.order) result }

@@ -21,6 +21,7 @@ pub struct Powers<F> {
     ghost few_checks: { check_bays ≤ most_checks },
 }
 
+// By hand: no derive clones a struct with ghost fields.
 impl<F> Clone for Powers<F> {
     ghost is_clone = { λ x y. y ≡ x };
 
@@ -38,10 +39,9 @@ impl<F: Field> Powers<F> {
     pub fn new(data_bays: usize, check_bays: usize) -> Result<Powers<F>, Refusal>
         ensures { MatchResult result (λ p. (bays_refusal data_bays check_bays ≡ None) × (p.data_bays ≡ data_bays) × (p.check_bays ≡ check_bays)) (λ e. bays_refusal data_bays check_bays ≡ Some e) }
     {
-        if data_bays < 1 || data_bays > MOST_DATA_BAYS {
-            return Err(Refusal::BaysOutOfRange);
-        }
-        if check_bays < 1 || check_bays > MOST_CHECK_BAYS {
+        if !(1..=MOST_DATA_BAYS).contains(&data_bays)
+            || !(1..=MOST_CHECK_BAYS).contains(&check_bays)
+        {
             return Err(Refusal::BaysOutOfRange);
         }
         Ok(Powers {
@@ -53,12 +53,13 @@ impl<F: Field> Powers<F> {
 }
 
 // The code `base` to the `exponent`.
+#[tactic(auto, using(crate::specs::Powering::power_more), unfolding(crate::specs::Powers::power))]
 fn power_of<F: Field>(base: u32, exponent: usize) -> u32
     requires { base < F.Field.arithmetic.order }
     ensures { result ≡ power F.Field.arithmetic base exponent }
 {
     let mut all = 1;
-    for i in 0..exponent {
+    for _ in 0..exponent {
         all = F::product(base, all);
     }
     all
