@@ -1,8 +1,9 @@
 -- The remainder by a polynomial differs from what was divided by a multiple of it.
 use Rattle.std.proofs.Common.{◌≡◌, ℕ, zero, suc, ◌+◌, ◌*◌, ◌/◌, ◌%◌, ◌^◌, ◌<◌, sym, ap, ◌∙◌, ap₂, mul_assoc, mul_comm, zero-mul, mul-one, arith, pow_pos}
-use native.Mathlib.Nat.{two-pow-succ, pow-succ'}
-use lib.Arith.{digits_lt}
-use lib.Bits.{bit_xor, xor_assoc, xor_comm, xor_zero_r, xor_shifted, shifted_half, shifted_even}
+use Rattle.std.proofs.Math.Nat.{two-pow-succ, pow-succ'}
+use Rattle.std.proofs.Math.Arith.{digits_lt}
+use Rattle.std.specs.Int.Bits.{bit_xor, xor_assoc, xor_zero_r, xor_shifted, shifted_half, shifted_even}
+use Rattle.std.proofs.lemmas.Nat.{xor_comm}
 use Rattle.field.specs.Polynomials.{carryless, remainder, mul_mod, Congruent, IsRemainder}
 use Rattle.field.specs.Linear.{cancel}
 use Rattle.field.specs.Products.{Products, carryless_right}

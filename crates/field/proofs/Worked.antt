@@ -1,9 +1,8 @@
 -- The worked examples: one test that antt computes over the table, and one lemma that turns it into the statement.
-use Rattle.std.proofs.Common.{◌≡◌, ℕ, ◌<◌, Bool, true, not, ◌&&◌, T, eqb, ltb, ◌≢◌, List, [], ◌∷◌, sym, subst, eqb→eq, ltb→lt, T_not}
-use lib.Dec.{eqb_refl}
+use Rattle.std.proofs.Common.{◌≡◌, ℕ, ◌<◌, Bool, true, not, ◌&&◌, eqb, ltb, ◌≢◌, List, [], ◌∷◌}
+use Rattle.std.proofs.lemmas.Bool.{and_parts, not-true, ltb-true, eqb-true, eqb-false}
 use Rattle.field.specs.Arithmetic.{Arithmetic, Lawful}
 use Rattle.field.specs.Examples.{Name, nibble, byte, count, arithmetic_of, Example, product, quotient, inverse, Holds, AllHold}
-use Rattle.field.specs.Checks.{both_left, both_right}
 use Rattle.field.specs.Laws.{inverse_is, quotient_is}
 use Rattle.field.specs.LawfulFields as fields
 
@@ -31,28 +30,30 @@ pub record Divides (k : Arithmetic) (a b r : ℕ) : Type 0 where
   pub back : k.mul r b ≡ a
 
 -- the test of a division, read part by part
-divided : (k : Arithmetic) (a b r : ℕ) → T (divides k a b r) → Divides k a b r
+divided : (k : Arithmetic) (a b r : ℕ) → divides k a b r ≡ true → Divides k a b r
 unfolding divides
 divided k a b r t =
-    let front = both_left (ltb b k.order && not (eqb b 0)) _ t in
-    let back = both_right (ltb b k.order && not (eqb b 0)) _ t in
+    let both = and_parts _ _ t in
+    let front = and_parts _ _ both.0 in
+    let back = and_parts _ _ both.1 in
     record {
-      divisor = ltb→lt _ _ (both_left _ _ front);
-      nonzero = λ e. T_not (eqb b 0) (both_right (ltb b k.order) _ front) (subst (λ (x : ℕ). T (eqb x 0)) (sym e) (eqb_refl 0));
-      result = ltb→lt _ _ (both_left _ _ back);
-      back = eqb→eq _ _ (both_right (ltb r k.order) _ back);
+      divisor = ltb-true _ _ front.0;
+      nonzero = eqb-false _ _ (not-true _ front.1);
+      result = ltb-true _ _ back.0;
+      back = eqb-true _ _ back.1;
     }
 
 -- an example that passes holds: a partner is the inverse, since a code has at most one
-right : (e : Example) → T (test e) → Holds e
+right : (e : Example) → test e ≡ true → Holds e
 unfolding test
-right (product k a b r) t = eqb→eq _ _ t
+right (product k a b r) t = eqb-true _ _ t
 right (quotient k a b r) t =
     let d = divided (arithmetic_of k) a b r t in
     quotient_is (arithmetic_of k) (lawful k) a b r d.divisor d.nonzero d.result d.back
 right (inverse k a r) t =
-    let d = divided (arithmetic_of k) 1 a r (both_right (eqb ((arithmetic_of k).mul a r) 1) _ t) in
-    inverse_is (arithmetic_of k) (lawful k) a r d.divisor d.nonzero d.result (eqb→eq _ _ (both_left _ _ t))
+    let both = and_parts _ _ t in
+    let d = divided (arithmetic_of k) 1 a r both.1 in
+    inverse_is (arithmetic_of k) (lawful k) a r d.divisor d.nonzero d.result (eqb-true _ _ both.0)
 
 -- every example of the table passes
 unfoldable pub passes : List Example → Bool
@@ -61,7 +62,7 @@ passes [] = true
 passes (e ∷ es) = test e && passes es
 
 -- so all of them hold, one after the other
-pub all_right : (es : List Example) → T (passes es) → AllHold es
+pub all_right : (es : List Example) → passes es ≡ true → AllHold es
 unfolding passes
 all_right [] t = tt
-all_right (e ∷ es) t = (right e (both_left (test e) (passes es) t), all_right es (both_right (test e) (passes es) t))
+all_right (e ∷ es) t = let both = and_parts _ _ t in (right e both.0, all_right es both.1)

@@ -1,6 +1,6 @@
 -- A field of binary polynomials, over the width: its laws from its tables, and its product and inverse by powers.
 use Rattle.std.specs.Prelude.{◌≡◌, ℕ, ◌+◌, ◌-◌, ◌^◌, ◌<◌, ◌≤◌, ◌≢◌, slice_index, refl}
-use Rattle.std.proofs.Common.{sym, ap, ap₂, subst, ◌∙◌, arith, eqb→eq}
+use Rattle.std.proofs.Common.{sym, ap, ap₂, subst, ◌∙◌, arith}
 use Rattle.std.specs.Int.Bits.{xor_assoc}
 use Rattle.std.proofs.lemmas.Nat.{xor_comm, xor_lt}
 use Rattle.field.specs.Polynomials.{mul_mod, binary}
@@ -33,7 +33,7 @@ module _ (w m : ℕ) (mul : Products w m) (low : 16 ≤ 2 ^ w) (high : 2 ^ w ≤
 
   -- the powers come round: an entry of the table
   turn : power_of_x w m (2 ^ w - 1) ≡ 1
-  turn = sym (power_at w m (2 ^ w - 1) (omega arith)) ∙ eqb→eq _ _ tables.turn
+  turn = sym (power_at w m (2 ^ w - 1) (omega arith)) ∙ tables.turn
 
   -- so each code but 0 has a partner
   other : (a : ℕ) → a < 2 ^ w → a ≢ 0 → mul_mod w m a (power_of_x w m (2 ^ w - 1 - slice_index (logs_table w m) a)) ≡ 1

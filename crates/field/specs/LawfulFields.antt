@@ -1,5 +1,5 @@
 -- The laws of the three fields: those of the binary ones by tests at their widths, which antt computes.
-use Rattle.std.proofs.Common.{lit<, lit≤}
+use Rattle.std.proofs.Common.{refl, lit<, lit≤}
 use Rattle.field.specs.Arithmetic.{Lawful}
 use Rattle.field.specs.Polynomials.{carryless, remainder, mul_mod}
 use Rattle.field.specs.Modular.{modular}
@@ -13,12 +13,12 @@ use Rattle.field.specs.Prime.{prime}
 -- the tests on the powers of x, computed
 nibble_basis : Basis 4 0x13
 unfolding mul_mod carryless remainder
-nibble_basis = record { below = tt; one = tt; comm = tt; assoc = tt }
+nibble_basis = record { below = refl; one = refl; comm = refl; assoc = refl }
 
 -- the same for the byte field
 byte_basis : Basis 8 0x11d
 unfolding mul_mod carryless remainder
-byte_basis = record { below = tt; one = tt; comm = tt; assoc = tt }
+byte_basis = record { below = refl; one = refl; comm = refl; assoc = refl }
 
 -- the laws of the products
 pub nibble_products : Products 4 0x13
@@ -31,12 +31,12 @@ byte_products = products 8 0x11d byte_basis
 -- the tests of the tables, computed
 pub nibble_tables : Tables 4 0x13
 unfolding mul_mod carryless remainder powers_from place places_from
-nibble_tables = record { logs = tt; turn = tt }
+nibble_tables = record { logs = refl; turn = refl }
 
 -- the same for the byte field
 pub byte_tables : Tables 8 0x11d
 unfolding mul_mod carryless remainder powers_from place places_from
-byte_tables = record { logs = tt; turn = tt }
+byte_tables = record { logs = refl; turn = refl }
 
 -- the laws of the nibble field
 pub nibble : Cyclic 4 0x13

@@ -1,13 +1,9 @@
 -- What follows from the laws of a field, once for all of them.
-use Rattle.std.specs.Prelude.{◌≡◌, ℕ, zero, suc, ◌%◌, ◌<◌, ◌≢◌, Some, None, refl}
+use Rattle.std.specs.Prelude.{◌≡◌, ℕ, zero, suc, ◌%◌, ◌<◌, ◌≢◌, Some, refl}
 use Rattle.std.proofs.Common.{sym, ap, ◌∙◌, mod-lt, arith}
 use Rattle.field.specs.Arithmetic.{Arithmetic, Lawful, inverse_of}
 
--- the answer at zero is none
-pub none_at_zero : (k : Arithmetic) (a : ℕ) → a ≡ 0 → None ≡ inverse_of k a
-none_at_zero k a e = ap (inverse_of k) (sym e)
-
--- and elsewhere the inverse
+-- away from zero the answer is the inverse
 pub some_elsewhere : (k : Arithmetic) (a : ℕ) → a ≢ 0 → Some (k.inv a) ≡ inverse_of k a
 some_elsewhere k zero h = absurd (h refl)
 some_elsewhere k (suc a) h = refl

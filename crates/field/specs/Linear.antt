@@ -1,8 +1,8 @@
 -- Maps that keep the exclusive or, and how a few values of one fix it everywhere.
 use Rattle.std.specs.Prelude.{◌≡◌, ℕ, zero, suc, ◌+◌, ◌-◌, ◌*◌, ◌^◌, ◌<◌, bit_xor}
-use Rattle.std.proofs.Common.{sym, ap, ap₂, ◌∙◌, zero-mul, one-mul, mul_comm, add-zero, arith, pow_pos}
+use Rattle.std.proofs.Common.{sym, ap, ap₂, ◌∙◌, inl, inr, zero-mul, one-mul, mul_comm, add-zero, arith, pow_pos}
 use Rattle.std.proofs.Math.Nat.{two-pow-succ}
-use Rattle.std.proofs.Math.Decide.{dec_lt}
+use Rattle.std.proofs.lemmas.Bool.{cases_lt}
 use Rattle.std.specs.Int.Bits.{xor_assoc, xor_self, xor_zero_r, xor_shifted}
 use Rattle.std.proofs.lemmas.Nat.{xor_comm, xor_block}
 
@@ -64,15 +64,16 @@ pub agree : (f g : ℕ → ℕ) → Linear f → Linear g → (n : ℕ) → ((k 
 agree f g F G zero h a below =
     let none : a ≡ 0 = omega arith in
     ap f none ∙ at_zero f F ∙ sym (at_zero g G) ∙ ap g (sym none)
-agree f g F G (suc n) h a below = go (dec_lt a (2 ^ n)) (agree f g F G n (λ k l. h k (omega arith)))
-  where
-    go : Dec (a < 2 ^ n) → ((b : ℕ) → b < 2 ^ n → f b ≡ g b) → f a ≡ g a
-    go (yes l) rest = rest a l
-    go (no l) rest =
-        let low : a - 2 ^ n < 2 ^ n = omega (arith, two-pow-succ n) in
-        let sum : bit_xor (1 * 2 ^ n) (a - 2 ^ n) ≡ 1 * 2 ^ n + (a - 2 ^ n) = xor_shifted 1 n (a - 2 ^ n) low in
-        let parts : a ≡ bit_xor (2 ^ n) (a - 2 ^ n) = sym (ap (λ (x : ℕ). bit_xor x (a - 2 ^ n)) (sym (one-mul (2 ^ n))) ∙ sum ∙ omega arith) in
-        ap f parts ∙ F (2 ^ n) (a - 2 ^ n) ∙ ap₂ bit_xor (h n (omega arith)) (rest (a - 2 ^ n) low) ∙ sym (G (2 ^ n) (a - 2 ^ n)) ∙ sym (ap g parts)
+agree f g F G (suc n) h a below =
+    let rest = agree f g F G n (λ k l. h k (omega arith)) in
+    elim (cases_lt a (2 ^ n)) [
+      | inl l ↦ rest a l
+      | inr l ↦
+          let low : a - 2 ^ n < 2 ^ n = omega (arith, two-pow-succ n) in
+          let sum : bit_xor (1 * 2 ^ n) (a - 2 ^ n) ≡ 1 * 2 ^ n + (a - 2 ^ n) = xor_shifted 1 n (a - 2 ^ n) low in
+          let parts : a ≡ bit_xor (2 ^ n) (a - 2 ^ n) = sym (ap (λ (x : ℕ). bit_xor x (a - 2 ^ n)) (sym (one-mul (2 ^ n))) ∙ sum ∙ omega arith) in
+          ap f parts ∙ F (2 ^ n) (a - 2 ^ n) ∙ ap₂ bit_xor (h n (omega arith)) (rest (a - 2 ^ n) low) ∙ sym (G (2 ^ n) (a - 2 ^ n)) ∙ sym (ap g parts)
+    ]
 
 -- the same in two arguments, and in three
 pub record Bilinear (f : ℕ → ℕ → ℕ) : Type 0 where

@@ -1,12 +1,11 @@
 -- The powers of x, and the tables of them and of their logarithms, over the width: each nonzero code is a power.
-use Rattle.std.specs.Prelude.{◌≡◌, ℕ, zero, suc, ◌+◌, ◌-◌, ◌*◌, ◌^◌, ◌<◌, Bool, true, false, ◌&&◌, T, ◌≢◌, List, [], ◌∷◌, ◌==◌, nat_lt, length, slice_index, refl}
-use Rattle.std.proofs.Common.{sym, ◌∙◌, add-zero, zero-add, add-suc, suc-add, eqb→eq, ltb→lt}
-use Rattle.std.proofs.Math.Path.{ap}
-use native.Mathlib.Omega.{arith}
+use Rattle.std.specs.Prelude.{◌≡◌, ℕ, zero, suc, ◌+◌, ◌-◌, ◌*◌, ◌^◌, ◌<◌, Bool, true, false, ◌&&◌, ◌≢◌, List, [], ◌∷◌, ◌==◌, nat_lt, length, slice_index, refl}
+use Rattle.std.proofs.Common.{sym, ap, ◌∙◌, arith, add-zero, zero-add, add-suc, suc-add}
+use Rattle.std.proofs.lemmas.Bool.{and_parts, ltb-true, eqb-true}
 use Rattle.field.specs.Polynomials.{mul_mod}
 use Rattle.field.specs.Powers.{power_of_x}
 use Rattle.field.specs.Products.{Products}
-use Rattle.field.specs.Checks.{both_left, both_right, all, all_at}
+use Rattle.field.specs.Checks.{all, all_at}
 
 -- ---- the table of the first powers, and of the logarithms
 
@@ -62,9 +61,10 @@ powers_length w m = length-powers_from w m (2 * (2 ^ w - 1) - 1) 1
 pub logs_length : (w m : ℕ) → length (logs_table w m) ≡ 2 ^ w
 logs_length w m = length-places_from (powers_table w m) (2 ^ w) 0
 
+-- the tests of both tables
 pub record Tables (w m : ℕ) : Type 0 where
-  pub logs : T (all_logged (2 ^ w - 1) (powers_table w m) (logs_table w m) (2 ^ w))
-  pub turn : T (slice_index (powers_table w m) (2 ^ w - 1) == 1)
+  pub logs : all_logged (2 ^ w - 1) (powers_table w m) (logs_table w m) (2 ^ w) ≡ true
+  pub turn : slice_index (powers_table w m) (2 ^ w - 1) ≡ 1
 
 -- entry k of a list that starts at power i is power i + k
 powers_at : (w m n i k : ℕ) → k < n → slice_index (powers_from w m n (power_of_x w m i)) k ≡ power_of_x w m (i + k)
@@ -79,19 +79,23 @@ unfolding power_of_x
 power_at w m k h = powers_at w m (2 * (2 ^ w - 1) - 1) 0 k h ∙ ap (power_of_x w m) (zero-add k)
 
 module _ (w m : ℕ) (tables : Tables w m) where
-  -- read off the test of the table
+  -- both tests of a code that is not 0, read off the table
+  tested : (a : ℕ) → suc a < 2 ^ w → (slice_index (logs_table w m) (suc a) < 2 ^ w - 1) × (slice_index (powers_table w m) (slice_index (logs_table w m) (suc a)) ≡ suc a)
+  tested a l =
+      let both = and_parts _ _ (all_at (logged (2 ^ w - 1) (powers_table w m) (logs_table w m)) (2 ^ w) tables.logs (suc a) l) in
+      (ltb-true _ _ both.0, eqb-true _ _ both.1)
+
+  -- the first
   pub log_below : (a : ℕ) → a < 2 ^ w → a ≢ 0 → slice_index (logs_table w m) a < 2 ^ w - 1
   log_below zero l h = absurd (h refl)
-  log_below (suc a) l h =
-      ltb→lt _ _ (both_left _ _ (all_at (logged (2 ^ w - 1) (powers_table w m) (logs_table w m)) (2 ^ w) tables.logs (suc a) l))
+  log_below (suc a) l h = (tested a l).0
 
-  -- the power at the logarithm is the code, by the test
+  -- by the second the power at the logarithm is the code
   pub log_power : (a : ℕ) → a < 2 ^ w → a ≢ 0 → power_of_x w m (slice_index (logs_table w m) a) ≡ a
   log_power zero l h = absurd (h refl)
   log_power (suc a) l h =
-      sym (power_at w m (slice_index (logs_table w m) (suc a)) (omega (arith, log_below (suc a) l h)))
-      ∙ eqb→eq _ _ (both_right (nat_lt (slice_index (logs_table w m) (suc a)) (2 ^ w - 1)) _
-      (all_at (logged (2 ^ w - 1) (powers_table w m) (logs_table w m)) (2 ^ w) tables.logs (suc a) l))
+      let t = tested a l in
+      sym (power_at w m (slice_index (logs_table w m) (suc a)) (omega arith)) ∙ t.1
 
 -- ---- sums of exponents
 

@@ -1,8 +1,9 @@
 -- The product of binary polynomials modulo one, over the width: it keeps the exclusive or in both arguments, so a test at the powers of x
 -- proves its laws at every code.
-use Rattle.std.specs.Prelude.{◌≡◌, ℕ, zero, suc, ◌+◌, ◌*◌, ◌/◌, ◌%◌, ◌^◌, ◌<◌, T, nat_eq, nat_lt, refl}
-use Rattle.std.proofs.Common.{sym, ap, ap₂, subst, ◌∙◌, mod-lt, mod-eq_of_lt, arith, eqb→eq, ltb→lt, pow_pos}
+use Rattle.std.specs.Prelude.{◌≡◌, ℕ, zero, suc, ◌+◌, ◌*◌, ◌/◌, ◌%◌, ◌^◌, ◌<◌, true, nat_eq, nat_lt, refl}
+use Rattle.std.proofs.Common.{sym, ap, ap₂, subst, ◌∙◌, mod-lt, mod-eq_of_lt, arith, pow_pos}
 use Rattle.std.specs.Int.Bits.{bit_xor}
+use Rattle.std.proofs.lemmas.Bool.{ltb-true, eqb-true}
 use Rattle.std.proofs.lemmas.Nat.{xor_mod, xor_shr}
 use Rattle.field.specs.Polynomials.{carryless, remainder, mul_mod}
 use Rattle.field.specs.Linear.{Linear, Bilinear, exchange, xor_twice, bit_left, bit_right, after, agree, agree₂}
@@ -66,10 +67,10 @@ mul_bilinear w m = record {
 
 -- The tests at the powers of x.
 pub record Basis (w m : ℕ) : Type 0 where
-  pub below : T (all (λ i. all (λ j. nat_lt (mul_mod w m (2 ^ i) (2 ^ j)) (2 ^ w)) w) w)
-  pub one : T (all (λ i. nat_eq (mul_mod w m 1 (2 ^ i)) (2 ^ i)) w)
-  pub comm : T (all (λ i. all (λ j. nat_eq (mul_mod w m (2 ^ i) (2 ^ j)) (mul_mod w m (2 ^ j) (2 ^ i))) w) w)
-  pub assoc : T (all (λ i. all (λ j. all (λ k. nat_eq (mul_mod w m (mul_mod w m (2 ^ i) (2 ^ j)) (2 ^ k)) (mul_mod w m (2 ^ i) (mul_mod w m (2 ^ j) (2 ^ k)))) w) w) w)
+  pub below : all (λ i. all (λ j. nat_lt (mul_mod w m (2 ^ i) (2 ^ j)) (2 ^ w)) w) w ≡ true
+  pub one : all (λ i. nat_eq (mul_mod w m 1 (2 ^ i)) (2 ^ i)) w ≡ true
+  pub comm : all (λ i. all (λ j. nat_eq (mul_mod w m (2 ^ i) (2 ^ j)) (mul_mod w m (2 ^ j) (2 ^ i))) w) w ≡ true
+  pub assoc : all (λ i. all (λ j. all (λ k. nat_eq (mul_mod w m (mul_mod w m (2 ^ i) (2 ^ j)) (2 ^ k)) (mul_mod w m (2 ^ i) (mul_mod w m (2 ^ j) (2 ^ k)))) w) w) w ≡ true
 
 module _ (w m : ℕ) (basis : Basis w m) where
   -- cutting to w bits changes nothing on the powers of x, so it changes nothing
@@ -82,7 +83,7 @@ module _ (w m : ℕ) (basis : Basis w m) where
         left = λ b. after (λ x. x % 2 ^ w) (λ a. mul_mod w m a b) (λ x y. xor_mod x y w) ((mul_bilinear w m).left b);
         right = λ a. after (λ x. x % 2 ^ w) (mul_mod w m a) (λ x y. xor_mod x y w) ((mul_bilinear w m).right a);
       })
-      w (λ i j p q. sym (mod-eq_of_lt (ltb→lt _ _ (all_at _ w (all_at _ w basis.below i p) j q)))) a b p q))
+      w (λ i j p q. sym (mod-eq_of_lt (ltb-true _ _ (all_at _ w (all_at _ w basis.below i p) j q)))) a b p q))
       (mod-lt (mul_mod w m a b) (pow_pos w))
 
   -- both orders agree on the powers of x
@@ -90,11 +91,11 @@ module _ (w m : ℕ) (basis : Basis w m) where
   mul_comm =
       agree₂ (mul_mod w m) (λ a b. mul_mod w m b a) (mul_bilinear w m)
       (record { left = (mul_bilinear w m).right; right = (mul_bilinear w m).left })
-      w (λ i j p q. eqb→eq _ _ (all_at _ w (all_at _ w basis.comm i p) j q))
+      w (λ i j p q. eqb-true _ _ (all_at _ w (all_at _ w basis.comm i p) j q))
 
   -- one times a agrees with a on the powers of x
   one-mul : (a : ℕ) → a < 2 ^ w → mul_mod w m 1 a ≡ a
-  one-mul = agree (mul_mod w m 1) (λ a. a) ((mul_bilinear w m).right 1) (λ a b. refl) w (λ i p. eqb→eq _ _ (all_at _ w basis.one i p))
+  one-mul = agree (mul_mod w m 1) (λ a. a) ((mul_bilinear w m).right 1) (λ a b. refl) w (λ i p. eqb-true _ _ (all_at _ w basis.one i p))
 
   -- both groupings agree on the powers of x, in each of three arguments
   mul_assoc : (a b c : ℕ) → a < 2 ^ w → b < 2 ^ w → c < 2 ^ w → mul_mod w m (mul_mod w m a b) c ≡ mul_mod w m a (mul_mod w m b c)
@@ -114,7 +115,7 @@ module _ (w m : ℕ) (basis : Basis w m) where
         left = λ z. after (mul (2 ^ i)) (λ y. mul y z) (B.right (2 ^ i)) (B.left z);
         right = λ y. after (mul (2 ^ i)) (mul y) (B.right (2 ^ i)) (B.right y);
       })
-      w (λ j k s t. eqb→eq _ _ (all_at _ w (all_at _ w (all_at _ w basis.assoc i l) j s) k t)) b c q r)
+      w (λ j k s t. eqb-true _ _ (all_at _ w (all_at _ w (all_at _ w basis.assoc i l) j s) k t)) b c q r)
       a p
 
 -- what the tests give

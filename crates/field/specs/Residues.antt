@@ -1,23 +1,12 @@
 -- The laws of the numbers modulo a prime, over the prime.
 use Rattle.std.specs.Prelude.{◌≡◌, ℕ, zero, suc, ◌+◌, ◌-◌, ◌*◌, ◌/◌, ◌%◌, ◌<◌, ◌≤◌, ◌≢◌}
-use Rattle.std.proofs.Common.{sym, ap, ◌∙◌, add_assoc, add_comm, zero-add, mul_assoc, mul_comm, mul-add, add-mul, one-mul, mod-lt, mod-eq_of_lt, div-le_self, arith}
-use Rattle.std.proofs.Math.Nat.{mod-add-mod, add-mod-mod, add-mod, add-mod_right, mul-add-mod_self_left, mul-add-mod_self_right, div-add-mod}
-use Rattle.std.proofs.Math.Decide.{ℕ_discrete}
+use Rattle.std.proofs.Common.{sym, ap, ◌∙◌, inl, inr, add_assoc, add_comm, zero-add, mul_assoc, mul_comm, mul-add, one-mul, mod-lt, mod-eq_of_lt, div-le_self, arith}
+use Rattle.std.proofs.Math.Nat.{mod-add-mod, add-mod-mod, add-mod, add-mod_right, mul-add-mod_self_right, div-add-mod}
+use Rattle.std.proofs.lemmas.Bool.{cases_eq}
+use Rattle.std.proofs.lemmas.Nat.{mul-mod_first, mul-mod_second}
 use Rattle.field.specs.Arithmetic.{Lawful}
 use Rattle.field.specs.Modular.{times_mod, modular}
 use Rattle.field.specs.Partners as inverse
-
--- a factor may be reduced first
-pub remainder-mul : (q a b : ℕ) → a % q * b % q ≡ a * b % q
-remainder-mul q a b =
-    sym
-    (ap (λ (x : ℕ). x * b % q) (sym (div-add-mod a q))
-    ∙ ap (λ (x : ℕ). x % q) (add-mul (q * (a / q)) (a % q) b ∙ ap (λ (x : ℕ). x + a % q * b) (mul_assoc q (a / q) b))
-    ∙ mul-add-mod_self_left q (a / q * b) (a % q * b))
-
--- the other factor too
-pub mul-remainder : (q a b : ℕ) → a * (b % q) % q ≡ a * b % q
-mul-remainder q a b = ap (λ (x : ℕ). x % q) (mul_comm a (b % q)) ∙ remainder-mul q b a ∙ ap (λ (x : ℕ). x % q) (mul_comm b a)
 
 -- one division: a times what is short of q by its quotient leaves the remainder
 pub divided : (q a : ℕ) → a * (q - q / a) % q ≡ q % a % q
@@ -31,11 +20,11 @@ divided q a =
 -- so where b times f leaves a, b times f's next leaves q % a
 pub step : (q a b f : ℕ) → b * f % q ≡ a % q → b * (f * (q - q / a) % q) % q ≡ q % a % q
 step q a b f e =
-    mul-remainder q b (f * (q - q / a))
+    mul-mod_second b (f * (q - q / a)) q
     ∙ ap (λ (x : ℕ). x % q) (sym (mul_assoc b f (q - q / a)))
-    ∙ sym (remainder-mul q (b * f) (q - q / a))
+    ∙ sym (mul-mod_first (b * f) (q - q / a) q)
     ∙ ap (λ (x : ℕ). x * (q - q / a) % q) e
-    ∙ remainder-mul q a (q - q / a)
+    ∙ mul-mod_first a (q - q / a) q
     ∙ divided q a
 
 -- no number between divides q
@@ -52,11 +41,11 @@ lifted q a pos r = (
   (q - q / a) * r.0 % q,
   (
     mod-lt ((q - q / a) * r.0) pos,
-    mul-remainder q a ((q - q / a) * r.0)
+    mul-mod_second a ((q - q / a) * r.0) q
         ∙ ap (λ (x : ℕ). x % q) (sym (mul_assoc a (q - q / a) r.0))
-        ∙ sym (remainder-mul q (a * (q - q / a)) r.0)
+        ∙ sym (mul-mod_first (a * (q - q / a)) r.0 q)
         ∙ ap (λ (x : ℕ). x * r.0 % q) (divided q a)
-        ∙ remainder-mul q (q % a) r.0
+        ∙ mul-mod_first (q % a) r.0 q
         ∙ r.1.1,
   ),
 )
@@ -65,13 +54,12 @@ module _ (q : ℕ) (many : 1 < q) (prime : Prime q) where
   -- by induction: each remainder is smaller, and 1 is its own partner
   partner_to : (n a : ℕ) → a ≤ n → a < q → a ≢ 0 → Partner q a
   partner_to zero a l p h = absurd (h (omega arith))
-  partner_to (suc n) a l p h = go (ℕ_discrete a 1) (partner_to n (q % a))
-    where
-      go : Dec (a ≡ 1) → (q % a ≤ n → q % a < q → q % a ≢ 0 → Partner q (q % a)) → Partner q a
-      go (yes e) rest = (1, (many, ap (λ (x : ℕ). x * 1 % q) e ∙ mod-eq_of_lt many))
-      go (no e) rest =
-          let small : q % a < a = mod-lt q (omega arith) in
-          lifted q a (omega arith) (rest (omega arith) (omega arith) (prime a (omega arith) p))
+  partner_to (suc n) a l p h = elim (cases_eq a 1) [
+    | inl e ↦ (1, (many, ap (λ (x : ℕ). x * 1 % q) e ∙ mod-eq_of_lt many))
+    | inr e ↦
+        let small : q % a < a = mod-lt q (omega arith) in
+        lifted q a (omega arith) (partner_to n (q % a) (omega arith) (omega arith) (prime a (omega arith) p))
+  ]
 
   -- so each code but 0 has a partner
   pub partner : (a : ℕ) → a < q → a ≢ 0 → Partner q a
@@ -79,7 +67,7 @@ module _ (q : ℕ) (many : 1 < q) (prime : Prime q) where
 
   -- reduce once at the end, either way
   times_assoc : (a b c : ℕ) → a * b % q * c % q ≡ a * (b * c % q) % q
-  times_assoc a b c = remainder-mul q (a * b) c ∙ ap (λ (x : ℕ). x % q) (mul_assoc a b c) ∙ sym (mul-remainder q a (b * c))
+  times_assoc a b c = mul-mod_first (a * b) c q ∙ ap (λ (x : ℕ). x % q) (mul_assoc a b c) ∙ sym (mul-mod_second a (b * c) q)
 
   -- products of numbers commute
   times_comm : (a b : ℕ) → a * b % q ≡ b * a % q
@@ -104,7 +92,7 @@ module _ (q : ℕ) (many : 1 < q) (prime : Prime q) where
     mul_assoc = λ a b c _ _ _. times_assoc a b c;
     mul_comm = λ a b _ _. times_comm a b;
     one-mul = one_times;
-    mul-add = λ a b c _ _ _. mul-remainder q a (b + c) ∙ ap (λ (x : ℕ). x % q) (mul-add a b c) ∙ add-mod (a * b) (a * c) q;
+    mul-add = λ a b c _ _ _. mul-mod_second a (b + c) q ∙ ap (λ (x : ℕ). x % q) (mul-add a b c) ∙ add-mod (a * b) (a * c) q;
     sub-add = λ a b l k.
         let sum : a + (q - b) + b ≡ a + q = omega arith in
         mod-add-mod (a + (q - b)) q b ∙ ap (λ (x : ℕ). x % q) sum ∙ add-mod_right a q ∙ mod-eq_of_lt l;
