@@ -13,10 +13,6 @@ use Rattle.plan.proofs.Rows.{row-codes, moved_follows}
 abbrev pub checks_to : Arithmetic → Coefficients → List ℕ → ℕ → List ℕ
 checks_to k x v i = map (λ i. check_on k x i v) (range_with_len 0 i)
 
--- none below number 0
-pub no_checks : (k : Arithmetic) (x : Coefficients) (v : List ℕ) → [] ≡ checks_to k x v 0
-no_checks k x v = refl
-
 -- those below m are all
 pub all_checks : (k : Arithmetic) (x : Coefficients) (v : List ℕ) → checks_to k x v x.m ≡ checks_on k x v
 unfolding checks_on

@@ -1,6 +1,6 @@
 -- The row of each bay, column by column, and how a moved check follows the words.
 use Rattle.std.proofs.Common.{◌≡◌, ℕ, ◌+◌, ◌-◌, ◌%◌, ◌<◌, cond, eqb, ltb, List, map, length, get_or, sym, ap, ◌∙◌, subst, inl, inr, mod-eq_of_lt, arith}
-use Rattle.std.proofs.lemmas.Bool.{cond-true, cond-false, cases_Bool, cases_lt, lt-ltb, le-ltb}
+use Rattle.std.proofs.lemmas.Bool.{cond-true, cond-false, cond_both, cases_lt, lt-ltb, le-ltb}
 use Rattle.std.proofs.lemmas.List.{get_or_past}
 use Rattle.std.proofs.lemmas.List.FromFn.{length-map-range_with_len, get_or-map-range_with_len}
 use Rattle.std.specs.List.{fold, zip, range_with_len}
@@ -45,10 +45,9 @@ module _ (k : Arithmetic) (l : Lawful k) (x : Coefficients) (h : Fitting k x) wh
   -- zero, one or a coefficient
   entry_code : (b j : ℕ) → entry x b j < k.order
   entry_code b j = elim (cases_lt b x.n) [
-    | inl d ↦ subst (λ (y : ℕ). y < k.order) (sym (entry_data x b j d)) (elim (cases_Bool (eqb b j)) [
-      | inl e ↦ subst (λ (y : ℕ). y < k.order) (sym (cond-true (eqb b j) 1 0 e)) (one_below k l)
-      | inr e ↦ subst (λ (y : ℕ). y < k.order) (sym (cond-false (eqb b j) 1 0 e)) (zero_below k l)
-    ])
+    | inl d ↦
+        subst (λ (y : ℕ). y < k.order) (sym (entry_data x b j d))
+        (cond_both (eqb b j) 1 0 (λ y. y < k.order) (λ _. one_below k l) (λ _. zero_below k l))
     | inr d ↦
         let back : x.n + (b - x.n) ≡ b = omega arith in
         subst (λ (y : ℕ). entry x y j < k.order) back (subst (λ (y : ℕ). y < k.order) (sym (entry_check x (b - x.n) j)) (h.below (b - x.n) j))

@@ -1,24 +1,18 @@
 -- The plan of powers fits: its coefficients are codes, and 0 outside their range.
-use Rattle.std.specs.Prelude.{◌≡◌, ℕ, zero, suc, ◌+◌, ◌%◌, ◌<◌, ◌≤◌, Bool, true, false, ◌&&◌, ◌⊎◌, nat_lt, refl}
-use Rattle.std.proofs.Common.{sym, subst, ◌∙◌, inl, inr, ⊎_elim, add-one, arith}
+use Rattle.std.specs.Prelude.{◌≡◌, ℕ, zero, suc, ◌+◌, ◌%◌, ◌<◌, ◌≤◌, false, ◌&&◌, ◌⊎◌, nat_lt}
+use Rattle.std.proofs.Common.{sym, ◌∙◌, ⊎_elim, add-one, arith}
 use Rattle.std.proofs.Math.Path.{ap}
 use Rattle.std.proofs.Math.Nat.{mod-eq_of_lt}
-use Rattle.std.proofs.lemmas.Bool.{cond-true, cond-false, cases_Bool, cases_lt, le-ltb}
+use Rattle.std.proofs.lemmas.Bool.{cond-false, cond_both, and_left, and_right, and_parts, ltb-true, le-ltb}
 use Rattle.field.specs.Arithmetic.{Arithmetic, Lawful}
 use Rattle.field.specs.Laws.{zero_below, one_below}
 use Rattle.plan.specs.Bounds.{most_data, most_checks}
 use Rattle.plan.specs.Coefficients.{Fitting}
 use Rattle.plan.specs.Powers.{power, powers}
 
--- a test that fails, whatever the other says
-and_false : (b : Bool) → (b && false) ≡ false
-and_false true = refl
-and_false false = refl
-
 -- one of the two tests fails outside the range
 pub without : (i j m n : ℕ) → (m ≤ i) ⊎ (n ≤ j) → (nat_lt i m && nat_lt j n) ≡ false
-without i j m n =
-    ⊎_elim (λ p. ap (λ b. b && nat_lt j n) (le-ltb i m p)) (λ q. ap (λ b. nat_lt i m && b) (le-ltb j n q) ∙ and_false (nat_lt i m))
+without i j m n = ⊎_elim (λ p. and_left _ _ (le-ltb i m p)) (λ q. and_right _ _ (le-ltb j n q))
 
 module _ (k : Arithmetic) (l : Lawful k) where
   -- powers are codes, by induction on the exponent
@@ -41,13 +35,10 @@ module _ (k : Arithmetic) (l : Lawful k) where
 
   -- a power of a code, or zero
   coefficient_below : (i j n m : ℕ) → n ≤ most_data → (powers k n m).f i j < k.order
-  coefficient_below i j n m high = elim (cases_lt j n) [
-    | inl d ↦ elim (cases_Bool (nat_lt i m && nat_lt j n)) [
-      | inl e ↦ subst (λ (y : ℕ). y < k.order) (sym (cond-true (nat_lt i m && nat_lt j n) _ 0 e)) (power_below (j + 1) i (base_below j n d high))
-      | inr e ↦ subst (λ (y : ℕ). y < k.order) (sym (cond-false (nat_lt i m && nat_lt j n) _ 0 e)) (zero_below k l)
-    ]
-    | inr d ↦ subst (λ (y : ℕ). y < k.order) (sym (cond-false (nat_lt i m && nat_lt j n) _ 0 (without i j m n (inr d)))) (zero_below k l)
-  ]
+  coefficient_below i j n m high =
+      cond_both (nat_lt i m && nat_lt j n) (power k (j + 1) i) 0 (λ y. y < k.order)
+      (λ e. power_below (j + 1) i (base_below j n (ltb-true j n (and_parts _ _ e).1) high))
+      (λ _. zero_below k l)
 
   -- the bounds are those of the plan
   pub powers_fitting : (n m : ℕ) → 1 ≤ n → n ≤ most_data → 1 ≤ m → m ≤ most_checks → Fitting k (powers k n m)
