@@ -25,40 +25,28 @@ fn horner(a: u32, b: u32, width: u32, polynomial: u32) -> u32
 }
 
 // How many products of a row of the table agree with the second computation.
-fn agreeing<F: Field>(a: u32, width: u32, polynomial: u32) -> u32
+fn agreeing<F: Field>(a: u32, width: u32, polynomial: u32) -> usize
     requires { width < 32 }
 {
-    let mut agree = 0u32;
-    for b in 0..F::size() {
-        if F::product(a, b) == horner(a, b, width, polynomial) {
-            agree = agree.saturating_add(1);
-        }
-    }
-    agree
+    (0..F::size())
+        .filter(|b| horner(a, *b, width, polynomial) == F::product(a, *b))
+        .count()
 }
 
 // How many products of the whole table agree.
-fn table<F: Field>(width: u32, polynomial: u32) -> u32
+fn table<F: Field>(width: u32, polynomial: u32) -> usize
     requires { width < 32 }
 {
-    let mut agree = 0u32;
-    for a in 0..F::size() {
-        agree = agree.saturating_add(agreeing::<F>(a, width, polynomial));
-    }
-    agree
+    (0..F::size())
+        .map(|a| agreeing::<F>(a, width, polynomial))
+        .fold(0, usize::saturating_add)
 }
 
 // How many codes times their inverse are one.
-fn inverses<F: Field>() -> u32 {
-    let mut right = 0u32;
-    for a in 0..F::size() {
-        if let Some(inverse) = F::inverse(a) {
-            if F::product(a, inverse) == 1 {
-                right = right.saturating_add(1);
-            }
-        }
-    }
-    right
+fn inverses<F: Field>() -> usize {
+    (0..F::size())
+        .filter(|a| F::inverse(*a).is_some_and(|inverse| F::product(*a, inverse) == 1))
+        .count()
 }
 
 fn main(rt: HostRuntime) -> io::Result<()> {
