@@ -1,4 +1,5 @@
 pub mod Tokens
+pub mod Cursors
 pub mod Numerals
 pub mod Outcome
 pub mod Lines

@@ -1,11 +1,13 @@
 -- How a line is cut into tokens.
-use Rattle.std.specs.Prelude.{◌≡◌, ℕ, zero, suc, Bool, true, cond, ◌||◌, List, [], ◌∷◌, Some, None, Option, ◌==◌}
-use Rattle.std.specs.Bool.{beq}
-use Rattle.std.specs.Borrow.{Bor}
+use Rattle.std.specs.Prelude.{ℕ, Bool, true, not, cond, ◌||◌, List, [], ◌∷◌, ◌==◌}
 
 -- a space, a tab, a newline or a carriage return
 abbrev pub blank : ℕ → Bool
 blank c = c == 32 || (c == 9 || (c == 10 || c == 13))
+
+-- any other byte, which stands in a token
+abbrev pub solid : ℕ → Bool
+solid c = not (blank c)
 
 -- the text is empty or begins with a blank
 abbrev pub apart : List ℕ → Bool
@@ -21,13 +23,3 @@ onto c (t ∷ ts) = (c ∷ t) ∷ ts
 abbrev pub tokens : List ℕ → List (List ℕ)
 tokens [] = []
 tokens (c ∷ rest) = cond (blank c) (tokens rest) (cond (apart rest) ((c ∷ []) ∷ tokens rest) (onto c (tokens rest)))
-
--- how many bytes at the front are blanks, where b is true, or else are none
-abbrev pub run : Bool → List ℕ → ℕ
-run b [] = zero
-run b (c ∷ rest) = cond (beq (blank c) b) (suc (run b rest)) zero
-
--- of the tokens ts one is taken and us are left, or there is none
-abbrev pub Next : List (List ℕ) → Option (Bor (List ℕ)) → List (List ℕ) → Type 0
-Next ts None us = ts ≡ []
-Next ts (Some t) us = ts ≡ t.now ∷ us

@@ -1,8 +1,11 @@
 // Cuts a line into its tokens, one at a time.
 ghost use Rattle.std.specs.Prelude.{◌≡◌};
+ghost use Rattle.std.specs.Iterator.{YieldsFirstRef, item_count};
+ghost use Rattle.std.specs.List.{position, prefix_len};
 ghost use Rattle.std.specs.Option.{option_map};
 ghost use Rattle.command.specs.Lines.{naming};
-ghost use Rattle.command.specs.Tokens.{blank, tokens, run, Next};
+ghost use Rattle.command.specs.Cursors.{tokens_left};
+ghost use Rattle.command.specs.Tokens.{blank, solid, tokens};
 
 // What is left of a line after the tokens that were taken from it.
 #[derive(Clone, Copy)]
@@ -10,15 +13,20 @@ pub struct Cursor<'a> {
     pub rest: &'a [u8],
 }
 
-impl<'a> Cursor<'a> {
+impl<'a> Iterator for Cursor<'a> {
+    type Item = &'a [u8];
+
+    ghost next_gives = { YieldsFirstRef tokens_left };
+
+    ghost remaining = { item_count tokens_left };
+
+    #[tactic(auto, using(crate::proofs::Cuts::cutting))]
     // Takes the next token, or answers None where only blanks are left.
-    pub fn next(&mut self) -> Option<&'a [u8]>
-        ensures { Next (tokens self.old.rest.now) result (tokens self.new.rest.now) }
-    {
-        let (_, text) = self.rest.split_at(run_length(self.rest, true));
-        let (token, rest) = text.split_at(run_length(text, false));
+    fn next(&mut self) -> Option<&'a [u8]> {
+        let (_, text) = self.rest.split_at(token_start(self.rest)?);
+        let (token, rest) = text.split_at(token_length(text));
         self.rest = rest;
-        if token.is_empty() { None } else { Some(token) }
+        Some(token)
     }
 }
 
@@ -34,15 +42,18 @@ pub fn name_of(line: &[u8]) -> Option<(&[u8], Cursor)>
     }
 }
 
-// How many bytes at the front are blanks, or, where `blanks` is false, are none.
-fn run_length(text: &[u8], blanks: bool) -> usize
-    ensures { result ≡ run blanks text.now }
+// Where the first byte that is no blank stands, or None where there is none.
+fn token_start(text: &[u8]) -> Option<usize>
+    ensures { result ≡ position solid text.now }
 {
-    let mut length = 0;
-    while length < text.len() && is_blank(text[length]) == blanks {
-        length += 1;
-    }
-    length
+    text.iter().position(|byte| !is_blank(*byte))
+}
+
+// How many bytes stand in front of the first blank.
+fn token_length(text: &[u8]) -> usize
+    ensures { result ≡ prefix_len solid text.now }
+{
+    text.iter().take_while(|byte| !is_blank(**byte)).count()
 }
 
 fn is_blank(byte: u8) -> bool

@@ -29,13 +29,10 @@ pub fn number(token: &[u8]) -> Option<u32>
 pub fn numbers(heap: Global, arguments: Cursor, first: u8) -> Result<Vec<u32>, Fault>
     ensures { Answers vec_items (numerals first (tokens arguments.entry.rest.now)) result }
 {
-    let mut arguments = arguments;
     let mut read = Vec::new(heap);
-    while let Some(token) = arguments.next() {
-        match number(token) {
-            Some(value) => read.push(value)?,
-            None => return Err(Fault::NotANumber(read.len() + first as usize)),
-        }
+    for token in arguments {
+        let value = number(token).ok_or(Fault::NotANumber(read.len() + first as usize))?;
+        read.push(value)?;
     }
     Ok(read)
 }
