@@ -2,3 +2,4 @@ pub mod Cuts
 pub mod Decimals
 pub mod Readings
 pub mod Examples
+pub mod Names

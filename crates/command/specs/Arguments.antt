@@ -1,35 +1,13 @@
 -- What the tokens after a line's name mean, where they are numbers, by how many there may be.
-use Rattle.std.specs.Prelude.{ℕ, List, [], ◌∷◌, Ok, Err, Result}
+use Rattle.std.specs.Prelude.{ℕ, cond, ◌==◌, length, List, [], ◌∷◌, Ok, Err, Result}
 use Rattle.command.specs.Numerals.{numerals}
 use Rattle.command.specs.Outcome.{following}
 use Rattle.command.specs.declared.command.Fault.{Fault}
 use Rattle.command.specs.declared.command.Fault.TheVariants.{TokenCount}
 
--- no number
-abbrev pub none : List ℕ → Result (Unit {0}) Fault
-none [] = Ok tt
-none (a ∷ rest) = Err TokenCount
-
--- one number and no more
-abbrev pub one : List ℕ → Result ℕ Fault
-one [] = Err TokenCount
-one (a ∷ []) = Ok a
-one (a ∷ b ∷ rest) = Err TokenCount
-
--- two numbers and no more
-abbrev pub two : List ℕ → Result (ℕ × ℕ) Fault
-two [] = Err TokenCount
-two (a ∷ []) = Err TokenCount
-two (a ∷ b ∷ []) = Ok (a, b)
-two (a ∷ b ∷ c ∷ rest) = Err TokenCount
-
--- three numbers and no more
-abbrev pub three : List ℕ → Result (ℕ × ℕ × ℕ) Fault
-three [] = Err TokenCount
-three (a ∷ []) = Err TokenCount
-three (a ∷ b ∷ []) = Err TokenCount
-three (a ∷ b ∷ c ∷ []) = Ok (a, b, c)
-three (a ∷ b ∷ c ∷ d ∷ rest) = Err TokenCount
+-- n numbers and no more
+abbrev pub exactly : ℕ → List ℕ → Result (List ℕ) Fault
+exactly n ns = cond (length ns == n) (Ok ns) (Err TokenCount)
 
 -- a number, and any number of others
 abbrev pub one_and_rest : List ℕ → Result (ℕ × List ℕ) Fault

@@ -1,8 +1,8 @@
 -- What a line of a drill means, and the line that begins one.
-use Rattle.std.specs.Prelude.{ℕ, cond, List, None, Ok, Err, vec_items, codes, Option, Result}
+use Rattle.std.specs.Prelude.{ℕ, cond, List, None, Ok, Err, vec_items, codes, slice_index, Option, Result}
 use Rattle.std.specs.Option.{option_map}
 use Rattle.std.specs.Str.{bytes_eq}
-use Rattle.command.specs.Arguments.{none, one, two, three, one_and_rest, counted, taking}
+use Rattle.command.specs.Arguments.{exactly, one_and_rest, taking}
 use Rattle.command.specs.Lines.{line_means, present}
 use Rattle.command.specs.Outcome.{Answers}
 use Rattle.command.specs.declared.calls.ShelfCall.{ShelfCall}
@@ -38,15 +38,15 @@ called End = end
 
 -- stop CALL BAY
 abbrev pub stopping : List (List ℕ) → Result Call Fault
-stopping ts = taking two 2 ts (λ n. stop n.0 n.1)
+stopping ts = taking (exactly 2) 2 ts (λ n. stop (slice_index n 0) (slice_index n 1))
 
 -- read BAY PLACE
 abbrev pub cell_reading : List (List ℕ) → Result Call Fault
-cell_reading ts = taking two 2 ts (λ n. read n.0 n.1)
+cell_reading ts = taking (exactly 2) 2 ts (λ n. read (slice_index n 0) (slice_index n 1))
 
 -- write BAY PLACE WORD
 abbrev pub cell_writing : List (List ℕ) → Result Call Fault
-cell_writing ts = taking three 2 ts (λ n. write n.0 n.1 n.2)
+cell_writing ts = taking (exactly 3) 2 ts (λ n. write (slice_index n 0) (slice_index n 1) (slice_index n 2))
 
 -- lay PLACE WORD WORD ..
 abbrev pub shelf_laying : List (List ℕ) → Result Call Fault
@@ -54,23 +54,23 @@ shelf_laying ts = taking one_and_rest 2 ts (λ n. lay n.0 n.1)
 
 -- patch BAY PLACE WORD
 abbrev pub patching : List (List ℕ) → Result Call Fault
-patching ts = taking three 2 ts (λ n. patch n.0 n.1 n.2)
+patching ts = taking (exactly 3) 2 ts (λ n. patch (slice_index n 0) (slice_index n 1) (slice_index n 2))
 
 -- exchange BAY
 abbrev pub exchanging : List (List ℕ) → Result Call Fault
-exchanging ts = taking one 2 ts (λ n. exchange n)
+exchanging ts = taking (exactly 1) 2 ts (λ n. exchange (slice_index n 0))
 
 -- fetch BAY FIRST COUNT
 abbrev pub fetching : List (List ℕ) → Result Call Fault
-fetching ts = taking three 2 ts (λ n. fetch n.0 n.1 n.2)
+fetching ts = taking (exactly 3) 2 ts (λ n. fetch (slice_index n 0) (slice_index n 1) (slice_index n 2))
 
 -- survey FIRST COUNT
 abbrev pub surveying : List (List ℕ) → Result Call Fault
-surveying ts = taking two 2 ts (λ n. survey n.0 n.1)
+surveying ts = taking (exactly 2) 2 ts (λ n. survey (slice_index n 0) (slice_index n 1))
 
 -- end
 abbrev pub ending : List (List ℕ) → Result Call Fault
-ending ts = taking none 2 ts (λ _. end)
+ending ts = taking (exactly 0) 2 ts (λ _. end)
 
 -- the call of this name, with these tokens after the name
 abbrev pub call_named : List ℕ → List (List ℕ) → Result Call Fault
@@ -96,7 +96,7 @@ ReadsCall line r = Answers (option_map called) (calling line) r
 
 -- drill PLACES: how many places the drill has that a line begins; any other line begins none
 unfoldable pub drilling : List ℕ → Result (Option ℕ) Fault
-drilling line = line_means line (λ name ts. cond (bytes_eq name (codes "drill")) (present (counted one 2 ts)) (Ok None))
+drilling line = line_means line (λ name ts. cond (bytes_eq name (codes "drill")) (present (taking (exactly 1) 2 ts (λ n. slice_index n 0))) (Ok None))
 
 -- the answer is that number; only want of memory may come instead
 abbrev pub ReadsDrill : List ℕ → Result (Option ℕ) Fault → Type 0

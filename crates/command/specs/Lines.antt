@@ -1,9 +1,13 @@
 -- What a line means, whatever commands there are.
-use Rattle.std.specs.Prelude.{ℕ, cond, List, [], ◌∷◌, Some, None, Ok, Option, Result}
+use Rattle.std.specs.Prelude.{ℕ, Bool, false, cond, ◌==◌, List, [], ◌∷◌, Some, None, Ok, Option, Result}
 use Rattle.command.specs.Outcome.{following}
-use Rattle.command.specs.Reading.{remark}
 use Rattle.command.specs.Tokens.{tokens}
 use Rattle.command.specs.declared.command.Fault.{Fault}
+
+-- a token that begins with '#'
+abbrev pub remark : List ℕ → Bool
+remark [] = false
+remark (c ∷ rest) = c == 35
 
 -- a line's name and the tokens after it: there is none where the line has no token, or where its first is a remark
 abbrev pub naming : List (List ℕ) → Option (List ℕ × List (List ℕ))

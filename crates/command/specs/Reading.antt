@@ -1,10 +1,10 @@
 -- What a line means.
-use Rattle.std.specs.Prelude.{ℕ, Bool, false, cond, List, [], ◌∷◌, Some, None, Ok, Err, vec_items, codes, Option, Result, ◌==◌}
+use Rattle.std.specs.Prelude.{ℕ, cond, List, [], ◌∷◌, Ok, Err, vec_items, codes, slice_index, Option, Result}
 use Rattle.std.specs.Option.{option_map}
 use Rattle.std.specs.Str.{bytes_eq}
+use Rattle.command.specs.Arguments.{exactly, one_and_rest, taking}
+use Rattle.command.specs.Lines.{line_means, present}
 use Rattle.command.specs.Outcome.{following, Answers}
-use Rattle.command.specs.Numerals.{numerals}
-use Rattle.command.specs.Tokens.{tokens}
 use Rattle.command.specs.declared.command.Command.{Command}
 use Rattle.command.specs.declared.command.Command.TheVariants.{Archive, Lay, Write}
 use Rattle.command.specs.declared.command.FieldName.{FieldName}
@@ -23,19 +23,6 @@ abbrev pub meant : Command → Order
 meant (Archive field bays checks places) = archive field bays checks places
 meant (Lay place words) = lay place (vec_items words)
 meant (Write bay place word) = write bay place word
-
--- three numbers and no more
-abbrev pub three : {X : Type 0} → (ℕ → ℕ → ℕ → X) → List ℕ → Result X Fault
-three make [] = Err TokenCount
-three make (a ∷ []) = Err TokenCount
-three make (a ∷ b ∷ []) = Err TokenCount
-three make (a ∷ b ∷ c ∷ []) = Ok (make a b c)
-three make (a ∷ b ∷ c ∷ d ∷ rest) = Err TokenCount
-
--- a number, and any number of others
-abbrev pub one_and_rest : {X : Type 0} → (ℕ → List ℕ → X) → List ℕ → Result X Fault
-one_and_rest make [] = Err TokenCount
-one_and_rest make (a ∷ rest) = Ok (make a rest)
 
 -- a token, and then what those after it mean
 abbrev pub token_then : {X : Type 0} → List (List ℕ) → (List ℕ → List (List ℕ) → Result X Fault) → Result X Fault
@@ -60,15 +47,15 @@ abbrev pub archiving : List (List ℕ) → Result Order Fault
 archiving ts =
     token_then ts (λ field us. following (field_of field) (λ f.
     token_then us (λ plan vs. following (plan_of plan) (λ _.
-    following (numerals 4 vs) (three (archive f))))))
+    taking (exactly 3) 4 vs (λ n. archive f (slice_index n 0) (slice_index n 1) (slice_index n 2))))))
 
 -- lay PLACE WORD WORD ..
 abbrev pub laying : List (List ℕ) → Result Order Fault
-laying ts = following (numerals 2 ts) (one_and_rest lay)
+laying ts = taking one_and_rest 2 ts (λ n. lay n.0 n.1)
 
 -- write BAY PLACE WORD
 abbrev pub writing : List (List ℕ) → Result Order Fault
-writing ts = following (numerals 2 ts) (three write)
+writing ts = taking (exactly 3) 2 ts (λ n. write (slice_index n 0) (slice_index n 1) (slice_index n 2))
 
 -- the command of this name, with these tokens after the name
 abbrev pub named : List ℕ → List (List ℕ) → Result Order Fault
@@ -78,19 +65,9 @@ named name ts =
     (cond (bytes_eq name (codes "write")) (writing ts)
     (Err UnknownCommand)))
 
--- a token that begins with '#'
-abbrev pub remark : List ℕ → Bool
-remark [] = false
-remark (c ∷ rest) = c == 35
-
--- what a line's tokens mean: nothing, a command or a fault
-abbrev pub reading_of : List (List ℕ) → Result (Option Order) Fault
-reading_of [] = Ok None
-reading_of (name ∷ ts) = cond (remark name) (Ok None) (following (named name ts) (λ o. Ok (Some o)))
-
 -- what a line means
 unfoldable pub reading : List ℕ → Result (Option Order) Fault
-reading line = reading_of (tokens line)
+reading line = line_means line (λ name ts. present (named name ts))
 
 -- the answer is what the line means; only want of memory may come instead
 abbrev pub Reads : List ℕ → Result (Option Command) Fault → Type 0

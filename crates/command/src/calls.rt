@@ -4,10 +4,9 @@ ghost use Rattle.command.specs.Calls.{ReadsCall, ReadsDrill, called, call_named}
 ghost use Rattle.command.specs.Outcome.{Answers};
 ghost use Rattle.command.specs.Tokens.{tokens};
 
-use crate::arguments::{read_none, read_one, read_one_and_rest, read_three, read_two};
+use crate::arguments::{read_exactly, read_one_and_rest};
 use crate::command::Fault;
 use crate::cursor::{Cursor, name_of};
-use crate::read::is;
 use std::alloc::Global;
 
 // What a line of a drill asks for. A bay is a device, a place a position on each device, and a word the number in one cell.
@@ -45,38 +44,48 @@ pub fn read_call(heap: Global, line: &[u8]) -> Result<Option<ShelfCall>, Fault>
 }
 
 // The call of this name, with the tokens after it as its arguments.
+#[tactic(auto, using(crate::proofs::Names::bytes_eq_reads))]
 fn read_call_named(heap: Global, name: &[u8], arguments: Cursor) -> Result<ShelfCall, Fault>
     ensures { Answers called (call_named name.now (tokens arguments.entry.rest.now)) result }
 {
-    if is(name, "stop") {
-        let (call, bay) = read_two(heap, arguments, 2)?;
-        Ok(ShelfCall::Stop { call, bay })
-    } else if is(name, "read") {
-        let (bay, place) = read_two(heap, arguments, 2)?;
-        Ok(ShelfCall::Read { bay, place })
-    } else if is(name, "write") {
-        let (bay, place, word) = read_three(heap, arguments, 2)?;
-        Ok(ShelfCall::Write { bay, place, word })
-    } else if is(name, "lay") {
-        let (place, words) = read_one_and_rest(heap, arguments, 2)?;
-        Ok(ShelfCall::Lay { place, words })
-    } else if is(name, "patch") {
-        let (bay, place, word) = read_three(heap, arguments, 2)?;
-        Ok(ShelfCall::Patch { bay, place, word })
-    } else if is(name, "exchange") {
-        let bay = read_one(heap, arguments, 2)?;
-        Ok(ShelfCall::Exchange { bay })
-    } else if is(name, "fetch") {
-        let (bay, first, count) = read_three(heap, arguments, 2)?;
-        Ok(ShelfCall::Fetch { bay, first, count })
-    } else if is(name, "survey") {
-        let (first, count) = read_two(heap, arguments, 2)?;
-        Ok(ShelfCall::Survey { first, count })
-    } else if is(name, "end") {
-        read_none(heap, arguments, 2)?;
-        Ok(ShelfCall::End)
-    } else {
-        Err(Fault::UnknownCommand)
+    match name {
+        b"stop" => {
+            let [call, bay] = read_exactly::<2>(heap, arguments, 2)?;
+            Ok(ShelfCall::Stop { call, bay })
+        }
+        b"read" => {
+            let [bay, place] = read_exactly::<2>(heap, arguments, 2)?;
+            Ok(ShelfCall::Read { bay, place })
+        }
+        b"write" => {
+            let [bay, place, word] = read_exactly::<3>(heap, arguments, 2)?;
+            Ok(ShelfCall::Write { bay, place, word })
+        }
+        b"lay" => {
+            let (place, words) = read_one_and_rest(heap, arguments, 2)?;
+            Ok(ShelfCall::Lay { place, words })
+        }
+        b"patch" => {
+            let [bay, place, word] = read_exactly::<3>(heap, arguments, 2)?;
+            Ok(ShelfCall::Patch { bay, place, word })
+        }
+        b"exchange" => {
+            let [bay] = read_exactly::<1>(heap, arguments, 2)?;
+            Ok(ShelfCall::Exchange { bay })
+        }
+        b"fetch" => {
+            let [bay, first, count] = read_exactly::<3>(heap, arguments, 2)?;
+            Ok(ShelfCall::Fetch { bay, first, count })
+        }
+        b"survey" => {
+            let [first, count] = read_exactly::<2>(heap, arguments, 2)?;
+            Ok(ShelfCall::Survey { first, count })
+        }
+        b"end" => {
+            let [] = read_exactly::<0>(heap, arguments, 2)?;
+            Ok(ShelfCall::End)
+        }
+        _ => Err(Fault::UnknownCommand),
     }
 }
 
@@ -85,12 +94,11 @@ fn read_call_named(heap: Global, name: &[u8], arguments: Cursor) -> Result<Shelf
 pub fn read_drill(heap: Global, line: &[u8]) -> Result<Option<u32>, Fault>
     ensures { ReadsDrill line.now result }
 {
-    let Some((name, arguments)) = name_of(line) else {
-        return Ok(None);
-    };
-    if !is(name, "drill") {
-        return Ok(None);
+    match name_of(line) {
+        Some((b"drill", arguments)) => {
+            let [places] = read_exactly::<1>(heap, arguments, 2)?;
+            Ok(Some(places))
+        }
+        _ => Ok(None),
     }
-    let places = read_one(heap, arguments, 2)?;
-    Ok(Some(places))
 }

@@ -1,6 +1,7 @@
 // The commands that a line can give, and what can be wrong with a line.
-ghost use Rattle.std.specs.Prelude.{◌≡◌, Some};
-ghost use Rattle.command.specs.Wording.{wording};
+ghost use Rattle.std.specs.Prelude.{◌≡◌, Ok, Some};
+ghost use Rattle.command.specs.Reading.{field_of};
+ghost use Rattle.command.specs.Wording.{wording, field_name};
 ghost use Rattle.command.specs.declared.command.Fault.TheVariants.{Memory};
 
 use std::alloc::{AllocError, AllocFailed};
@@ -15,6 +16,45 @@ pub enum FieldName {
     Byte,
     // The numbers below 65,537.
     Count,
+}
+
+impl TryFrom<&[u8]> for FieldName {
+    type Error = Fault;
+
+    ghost try_from_gives = { λ token r. r ≡ field_of token.now };
+
+    // The field that a token names.
+    #[tactic(auto, using(crate::proofs::Names::bytes_eq_reads))]
+    fn try_from(token: &[u8]) -> Result<FieldName, Fault> {
+        match token {
+            b"nibble" => Ok(FieldName::Nibble),
+            b"byte" => Ok(FieldName::Byte),
+            b"count" => Ok(FieldName::Count),
+            _ => Err(Fault::UnknownField),
+        }
+    }
+}
+
+impl FieldName {
+    // The name of a field: a script that has it there names this field.
+    pub fn name(self) -> &'static str
+        ensures spelled { result.now ≡ field_name self }
+        ensures read_back { field_of result.now ≡ Ok self }
+    {
+        match self {
+            FieldName::Nibble => "nibble",
+            FieldName::Byte => "byte",
+            FieldName::Count => "count",
+        }
+    }
+}
+
+impl fmt::Display for FieldName {
+    ghost output = { λ f. Some (field_name f) };
+
+    fn fmt<W: fmt::Write>(&self, f: &mut fmt::Formatter<W>) -> fmt::Result {
+        f.write_str(self.name())
+    }
 }
 
 // What a line asks for. A bay is a device, a place a position on each device, and a word the number in one cell.
