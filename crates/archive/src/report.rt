@@ -1,5 +1,4 @@
-ghost use Rattle.std.specs.Prelude.{◌≡◌, Ok, codes};
-ghost use Rattle.command.specs.Reading.{field_of};
+ghost use Rattle.std.specs.Prelude.{◌≡◌, codes};
 ghost use Rattle.archive.specs.Fields.{arithmetic_of};
 
 use crate::stripe::{Rewrite, Stripe};
@@ -47,17 +46,6 @@ impl fmt::Display for Row<'_> {
     }
 }
 
-// The name of a field: a script that has it there names this field.
-fn field_name(field: FieldName) -> &'static str
-    ensures { field_of result.now ≡ Ok field }
-{
-    match field {
-        FieldName::Nibble => "nibble",
-        FieldName::Byte => "byte",
-        FieldName::Count => "count",
-    }
-}
-
 // The order of a field.
 fn order_of(field: FieldName) -> u32
     ensures { result ≡ (arithmetic_of field).order }
@@ -101,11 +89,10 @@ impl fmt::Display for Report {
                 check_bays,
                 places,
             } => {
-                let name = field_name(*field);
                 let order = order_of(*field);
                 write!(
                     f,
-                    "archive: {name} field of order {order}, plan of powers, data bays {data_bays}, check bays {check_bays}, places {places}"
+                    "archive: {field} field of order {order}, plan of powers, data bays {data_bays}, check bays {check_bays}, places {places}"
                 )
             }
             Report::Laid { place, stripe } => {

@@ -31,3 +31,6 @@ decimal-passes s i n lt d h = sym (ap small (decimal_more s i n _ lt d refl)) �
 -- at the token's end the number stands
 pub decimal_ends : (s : List ℕ) (i n : ℕ) → length s ≤ i → n < 2 ^ 32 → small (decimal n (drop i s)) ≡ Some n
 decimal_ends s i n le h = rw (drop_all i s le, lt-ltb n (2 ^ 32) h)
+
+-- what a loop over the digits is proved by: its start, its steps and its end
+pub ruleset digits = (numeral_starts, decimal_more, decimal-stops, decimal-passes, decimal_ends)

@@ -2,12 +2,12 @@
 use Rattle.std.proofs.Common.{◌≡◌, [], ◌∷◌, Some, None, Ok, Err, codes, refl}
 use Rattle.command.specs.Calls as calls
 use Rattle.command.specs.Calls.{calling, drilling}
-use Rattle.command.specs.Reading.{archive, lay, write, reading}
+use Rattle.command.specs.Reading.{archive, lay, write, reading, archiving}
 use Rattle.command.specs.declared.command.FieldName.TheVariants.{Byte}
 use Rattle.command.specs.declared.command.Fault.TheVariants.{UnknownCommand, UnknownPlan, NotANumber, TokenCount}
 
 archives : reading (codes "archive byte powers 4 2 100") ≡ Ok (Some (archive Byte 4 2 100))
-unfolding reading
+unfolding reading archiving
 archives = refl
 
 lays : reading (codes "  lay 7   1 002 3 ") ≡ Ok (Some (lay 7 (1 ∷ 2 ∷ 3 ∷ [])))
@@ -39,11 +39,11 @@ unfolding reading
 too_many = refl
 
 no_plan : reading (codes "archive byte stripes 4 2 100") ≡ Err UnknownPlan
-unfolding reading
+unfolding reading archiving
 no_plan = refl
 
 no_number : reading (codes "archive byte powers 4 two 100") ≡ Err (NotANumber 5)
-unfolding reading
+unfolding reading archiving
 no_number = refl
 
 patches : calling (codes "patch 5 6 7") ≡ Ok (Some (calls.patch 5 6 7))

@@ -43,7 +43,7 @@ plan_of t = cond (bytes_eq t (codes "powers")) (Ok tt) (Err UnknownPlan)
 -- where none is, it is a fault that there are too few or too many.
 
 -- archive FIELD PLAN DATA CHECKS PLACES
-abbrev pub archiving : List (List ℕ) → Result Order Fault
+unfoldable pub archiving : List (List ℕ) → Result Order Fault
 archiving ts =
     token_then ts (λ field us. following (field_of field) (λ f.
     token_then us (λ plan vs. following (plan_of plan) (λ _.

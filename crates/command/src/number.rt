@@ -9,6 +9,7 @@ use crate::cursor::Cursor;
 use std::alloc::Global;
 
 // The number that a token writes in one or more decimal digits, or None where another byte stands in it or the number is not below 2^32.
+#[tactic(auto, using(crate::proofs::Decimals::digits))]
 pub fn number(token: &[u8]) -> Option<u32>
     ensures { result ≡ numeral token.now }
 {

@@ -42,6 +42,7 @@ fn read_named(heap: Global, name: &[u8], arguments: Cursor) -> Result<Command, F
 }
 
 // archive FIELD PLAN DATA CHECKS PLACES
+#[tactic(auto, unfolding(crate::specs::Reading::archiving))]
 fn read_archive(heap: Global, arguments: Cursor) -> Result<Command, Fault>
     ensures { Answers meant (archiving (tokens arguments.entry.rest.now)) result }
 {

@@ -3,6 +3,7 @@ use Rattle.std.proofs.lemmas.Bool.Decides.{nat_tests}
 use Rattle.command.proofs.Names.{differs}
 use Rattle.command.proofs.calls.read_call_named.Goals as goal
 
+-- any other name differs from each that is known
 pub returns-in_default : goal.returns-in_default
 returns-in_default c =
     let s = c.args.name.now in
