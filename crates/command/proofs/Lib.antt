@@ -1,5 +1,4 @@
 pub mod Cuts
 pub mod Decimals
-pub mod Readings
 pub mod Examples
 pub mod Names

@@ -2,7 +2,7 @@
 // The next token is number `first` of its line, which a fault counts from.
 ghost use Rattle.command.specs.Arguments.{exactly, one_and_rest, counted};
 ghost use Rattle.command.specs.Outcome.{Answers};
-ghost use Rattle.command.specs.Tokens.{tokens};
+ghost use Rattle.command.specs.Cursors.{tokens_left};
 
 use crate::command::Fault;
 use crate::cursor::Cursor;
@@ -15,7 +15,7 @@ pub fn read_exactly<const N: usize>(
     arguments: Cursor,
     first: u8,
 ) -> Result<[u32; N], Fault>
-    ensures { Answers (λ n. n) (counted (exactly N) first (tokens arguments.entry.rest.now)) result }
+    ensures { Answers (λ n. n) (counted (exactly N) first (tokens_left arguments.entry)) result }
 {
     let read = numbers(heap, arguments, first)?;
     <[u32; N]>::try_from(read).map_err(|_| Fault::TokenCount)
@@ -27,7 +27,7 @@ pub fn read_one_and_rest(
     arguments: Cursor,
     first: u8,
 ) -> Result<(u32, Vec<u32>), Fault>
-    ensures { Answers (λ n. (n.0, n.1.items)) (counted one_and_rest first (tokens arguments.entry.rest.now)) result }
+    ensures { Answers (λ n. (n.0, n.1.items)) (counted one_and_rest first (tokens_left arguments.entry)) result }
 {
     let mut rest = numbers(heap, arguments, first)?;
     if rest.is_empty() {

@@ -2,7 +2,7 @@
 // numbers. A call is one branch of `read_call_named` and one definition of what its tokens mean.
 ghost use Rattle.command.specs.Calls.{ReadsCall, ReadsDrill, called, call_named};
 ghost use Rattle.command.specs.Outcome.{Answers};
-ghost use Rattle.command.specs.Tokens.{tokens};
+ghost use Rattle.command.specs.Cursors.{tokens_left};
 
 use crate::arguments::{read_exactly, read_one_and_rest};
 use crate::command::Fault;
@@ -46,7 +46,7 @@ pub fn read_call(heap: Global, line: &[u8]) -> Result<Option<ShelfCall>, Fault>
 // The call of this name, with the tokens after it as its arguments.
 #[tactic(auto, using(crate::proofs::Names::bytes_eq_reads))]
 fn read_call_named(heap: Global, name: &[u8], arguments: Cursor) -> Result<ShelfCall, Fault>
-    ensures { Answers called (call_named name.now (tokens arguments.entry.rest.now)) result }
+    ensures { Answers called (call_named name.now (tokens_left arguments.entry)) result }
 {
     match name {
         b"stop" => {

@@ -8,9 +8,9 @@ ghost use Rattle.command.specs.Cursors.{tokens_left};
 ghost use Rattle.command.specs.Tokens.{blank, solid, tokens};
 
 // What is left of a line after the tokens that were taken from it.
-#[derive(Clone, Copy)]
+#[derive(Drop)]
 pub struct Cursor<'a> {
-    pub rest: &'a [u8],
+    rest: &'a [u8],
 }
 
 impl<'a> Iterator for Cursor<'a> {
@@ -20,8 +20,8 @@ impl<'a> Iterator for Cursor<'a> {
 
     ghost remaining = { item_count tokens_left };
 
-    #[tactic(auto, using(crate::proofs::Cuts::cutting))]
     // Takes the next token, or answers None where only blanks are left.
+    #[tactic(auto, using(crate::proofs::Cuts::cutting))]
     fn next(&mut self) -> Option<&'a [u8]> {
         let (_, text) = self.rest.split_at(token_start(self.rest)?);
         let (token, rest) = text.split_at(token_length(text));
@@ -32,12 +32,11 @@ impl<'a> Iterator for Cursor<'a> {
 
 // A line's first token and a cursor at those after it, or None where the line has no token, or where its first begins with '#'.
 pub fn name_of(line: &[u8]) -> Option<(&[u8], Cursor)>
-    ensures { option_map (λ n. (n.0.now, tokens n.1.rest.now)) result ≡ naming (tokens line.now) }
+    ensures { option_map (λ n. (n.0.now, tokens_left n.1)) result ≡ naming (tokens line.now) }
 {
     let mut cursor = Cursor { rest: line };
     match cursor.next() {
-        None => None,
-        Some([b'#', ..]) => None,
+        None | Some([b'#', ..]) => None,
         Some(name) => Some((name, cursor)),
     }
 }
@@ -56,6 +55,7 @@ fn token_length(text: &[u8]) -> usize
     text.iter().take_while(|byte| !is_blank(**byte)).count()
 }
 
+// A space, a tab, a newline or a carriage return.
 fn is_blank(byte: u8) -> bool
     ensures { result ≡ blank byte }
 {

@@ -2,7 +2,7 @@
 ghost use Rattle.std.specs.Prelude.{◌≡◌, vec_items};
 ghost use Rattle.command.specs.Numerals.{numeral, numerals};
 ghost use Rattle.command.specs.Outcome.{Answers};
-ghost use Rattle.command.specs.Tokens.{tokens};
+ghost use Rattle.command.specs.Cursors.{tokens_left};
 
 use crate::command::Fault;
 use crate::cursor::Cursor;
@@ -28,11 +28,11 @@ pub fn number(token: &[u8]) -> Option<u32>
 
 // The numbers that the tokens left write, up to the line's end. The next token is number `first` of its line, which a fault counts from.
 pub fn numbers(heap: Global, arguments: Cursor, first: u8) -> Result<Vec<u32>, Fault>
-    ensures { Answers vec_items (numerals first (tokens arguments.entry.rest.now)) result }
+    ensures { Answers vec_items (numerals first (tokens_left arguments.entry)) result }
 {
     let mut read = Vec::new(heap);
     for token in arguments {
-        let value = number(token).ok_or(Fault::NotANumber(read.len() + first as usize))?;
+        let value = number(token).ok_or(Fault::NotANumber(read.len() + usize::from(first)))?;
         read.push(value)?;
     }
     Ok(read)

@@ -1,10 +1,10 @@
 // Reads a line as a command. A line's first token is the command's name, and the tokens after it are read from left to right: the
-// first that is wrong is the fault, and only where none is wrong does their number count. A command is one function here, one
-// branch of `read_named` and one definition of what its tokens mean.
+// first that is wrong is the fault, and only where none is wrong does their number count. A command is one branch
+// of `read_named` and one definition of what its tokens mean.
 ghost use Rattle.std.specs.Prelude.{◌≡◌};
 ghost use Rattle.command.specs.Outcome.{Answers};
 ghost use Rattle.command.specs.Reading.{Reads, meant, named, archiving, plan_of};
-ghost use Rattle.command.specs.Tokens.{tokens};
+ghost use Rattle.command.specs.Cursors.{tokens_left};
 
 use crate::arguments::{read_exactly, read_one_and_rest};
 use crate::command::{Command, Fault, FieldName};
@@ -25,7 +25,7 @@ pub fn read_command(heap: Global, line: &[u8]) -> Result<Option<Command>, Fault>
 // The command of this name, with the tokens after it as its arguments.
 #[tactic(auto, using(crate::proofs::Names::bytes_eq_reads))]
 fn read_named(heap: Global, name: &[u8], arguments: Cursor) -> Result<Command, Fault>
-    ensures { Answers meant (named name.now (tokens arguments.entry.rest.now)) result }
+    ensures { Answers meant (named name.now (tokens_left arguments.entry)) result }
 {
     match name {
         b"archive" => read_archive(heap, arguments),
@@ -43,10 +43,9 @@ fn read_named(heap: Global, name: &[u8], arguments: Cursor) -> Result<Command, F
 
 // archive FIELD PLAN DATA CHECKS PLACES
 #[tactic(auto, unfolding(crate::specs::Reading::archiving))]
-fn read_archive(heap: Global, arguments: Cursor) -> Result<Command, Fault>
-    ensures { Answers meant (archiving (tokens arguments.entry.rest.now)) result }
+fn read_archive(heap: Global, mut arguments: Cursor) -> Result<Command, Fault>
+    ensures { Answers meant (archiving (tokens_left arguments.entry)) result }
 {
-    let mut arguments = arguments;
     let field = FieldName::try_from(arguments.next().ok_or(Fault::TokenCount)?)?;
     read_plan(arguments.next().ok_or(Fault::TokenCount)?)?;
     let [data_bays, check_bays, places] = read_exactly::<3>(heap, arguments, 4)?;
