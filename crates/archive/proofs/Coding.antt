@@ -16,6 +16,7 @@ use Rattle.plan.specs.Powering.{powers_fitting}
 use Rattle.shelf.specs.Refusals.{word_refusal, lay_refusal}
 use Rattle.shelf.specs.declared.refusal.Refusal.{Refusal}
 use Rattle.shelf.proofs.Words.{lay_fit, word_fit}
+use Rattle.command.specs.declared.command.Description.{Description}
 use Rattle.command.specs.declared.command.FieldName.{FieldName}
 use Rattle.command.specs.declared.command.FieldName.TheVariants.{Nibble, Byte, Count}
 use Rattle.archive.specs.Outcome.{Outcome, Carried}
@@ -172,14 +173,16 @@ range_fitting k l n m e =
     powers_fitting k l n m (leb-true 1 n first.0) (leb-true n most_data first.1) (leb-true 1 m third.1) (leb-true m most_checks last.1)
 
 -- so an archive that was described is coded
-pub fresh_coded : (f : FieldName) (n m places : ℕ) → description_fault n m places ≡ None → AllCoded (Some (fresh f n m places))
-fresh_coded f n m places e =
-    let k = arithmetic_of f in
+pub fresh_coded : (d : Description) → description_fault d ≡ None → AllCoded (Some (fresh d))
+fresh_coded d e =
+    let n = d.data_bays in
+    let m = d.check_bays in
+    let k = arithmetic_of d.field in
     let range : in_range n m ≡ true = elim (cases_Bool (in_range n m)) [
       | inl yes-range ↦ yes-range
       | inr no-range ↦
-          let refused : description_fault n m places ≡ Some (Plan BaysOutOfRange) = ap (places_fault places) (cond-false (in_range n m) _ _ no-range) in
+          let refused : description_fault d ≡ Some (Plan BaysOutOfRange) = ap (places_fault d.places) (cond-false (in_range n m) _ _ no-range) in
           let z : ◌≡◌ {A = ℕ} 0 1 = cc in
           absurd (let y : ⊥ = omega arith in y)
     ] in
-    (range_fitting k (lawful_of f) n m range, none_sound k (powers k n m) places)
+    (range_fitting k (lawful_of d.field) n m range, none_sound k (powers k n m) d.places)

@@ -5,6 +5,7 @@ use Rattle.plan.specs.Powers.{powers}
 use Rattle.plan.specs.Refusals.{bays_refusal}
 use Rattle.plan.specs.declared.powers_plan.Powers.{Powers}
 use Rattle.plan.specs.declared.refusal.Refusal.{Refusal}
+use Rattle.command.specs.declared.command.Description.{Description}
 use Rattle.command.specs.declared.command.FieldName.{FieldName}
 use Rattle.command.specs.declared.command.FieldName.TheVariants as name
 use Rattle.archive.specs.Fields.{arithmetic_of}
@@ -68,20 +69,20 @@ abbrev pub places_fault : ℕ → Option Refusal → Option Fault
 places_fault places (Some e) = Some (Plan e)
 places_fault places None = cond (enough_places places) None (Some PlacesOutOfRange)
 
-abbrev pub description_fault : ℕ → ℕ → ℕ → Option Fault
-description_fault n m places = places_fault places (bays_refusal n m)
+abbrev pub description_fault : Description → Option Fault
+description_fault d = places_fault d.places (bays_refusal d.data_bays d.check_bays)
 
 -- an archive with nothing laid
-abbrev pub fresh : FieldName → ℕ → ℕ → ℕ → Kept
-fresh f n m places = record { field = f; data_bays = n; check_bays = m; places = replicate places None }
+abbrev pub fresh : Description → Kept
+fresh d = record { field = d.field; data_bays = d.data_bays; check_bays = d.check_bays; places = replicate d.places None }
 
-abbrev pub describing_if : Option Kept → FieldName → ℕ → ℕ → ℕ → Option Fault → Outcome (Option Kept) (Unit {0})
-describing_if s f n m places (Some e) = refused s e
-describing_if s f n m places None = record { after = Some (fresh f n m places); answer = Ok tt }
+abbrev pub describing_if : Option Kept → Description → Option Fault → Outcome (Option Kept) (Unit {0})
+describing_if s d (Some e) = refused s e
+describing_if s d None = record { after = Some (fresh d); answer = Ok tt }
 
 -- A new archive, with nothing laid, takes the place of the one before.
-abbrev pub describing : Option Kept → FieldName → ℕ → ℕ → ℕ → Outcome (Option Kept) (Unit {0})
-describing s f n m places = describing_if s f n m places (description_fault n m places)
+abbrev pub describing : Option Kept → Description → Outcome (Option Kept) (Unit {0})
+describing s d = describing_if s d (description_fault d)
 
 -- The plan fits its field, and every stripe of the archive is coded.
 abbrev pub AllCoded : Option Kept → Type 0
@@ -89,16 +90,16 @@ AllCoded None = Unit {0}
 AllCoded (Some v) = Fitting (arithmetic_of v.field) (plan_of v) × Sound (arithmetic_of v.field) (plan_of v) v.places
 
 -- The contents that a description makes, as answered: fresh ones, or why there are none.
-abbrev pub Made : FieldName → ℕ → ℕ → ℕ → Result Contents Fault → Type 0
-Made f n m places (Ok c) = (description_fault n m places ≡ None) × (kept c ≡ Some (fresh f n m places))
-Made f n m places (Err e) = (description_fault n m places ≡ Some e) ⊎ (e ≡ Memory)
+abbrev pub Made : Description → Result Contents Fault → Type 0
+Made d (Ok c) = (description_fault d ≡ None) × (kept c ≡ Some (fresh d))
+Made d (Err e) = (description_fault d ≡ Some e) ⊎ (e ≡ Memory)
 
 -- The same of the stripes alone.
-abbrev pub MadeStripes : {F : Type 0} → ℕ → ℕ → ℕ → Result (Stripes (Powers F)) Fault → Type 0
-MadeStripes n m places (Ok s) =
-    (description_fault n m places ≡ None)
-    × (s.plan.data_bays ≡ n) × (s.plan.check_bays ≡ m) × (held_at (vec_items s.places) ≡ replicate places None)
-MadeStripes n m places (Err e) = (description_fault n m places ≡ Some e) ⊎ (e ≡ Memory)
+abbrev pub MadeStripes : {F : Type 0} → Description → Result (Stripes (Powers F)) Fault → Type 0
+MadeStripes d (Ok s) =
+    (description_fault d ≡ None)
+    × (s.plan.data_bays ≡ d.data_bays) × (s.plan.check_bays ≡ d.check_bays) × (held_at (vec_items s.places) ≡ replicate d.places None)
+MadeStripes d (Err e) = (description_fault d ≡ Some e) ⊎ (e ≡ Memory)
 
 -- What the calls promise of the contents before and after them.
 abbrev pub LaysIn : Contents → Contents → ℕ → List ℕ → Result Stripe Fault → Type 0

@@ -4,7 +4,7 @@ use Rattle.std.specs.Option.{option_map}
 use Rattle.command.specs.Reading.{Order, archive, lay, write, meant, reading}
 use Rattle.command.specs.declared.command.Command.{Command}
 use Rattle.command.specs.declared.command.Fault as command
-use Rattle.command.specs.declared.command.FieldName.{FieldName}
+use Rattle.command.specs.declared.command.Description.{Description}
 use Rattle.archive.specs.Outcome.{Outcome, refused, read_fault, Carried}
 use Rattle.archive.specs.Stripes.{Held, Shown, held, shown}
 use Rattle.archive.specs.Contents.{Kept, kept, describing, laying_in, writing_in}
@@ -14,12 +14,12 @@ use Rattle.archive.specs.declared.report.Report.{Report}
 use Rattle.archive.specs.declared.report.Report.TheVariants.{Described, Laid, Written}
 
 pub data Entry : Type 0 where
-  described : FieldName → ℕ → ℕ → ℕ → Entry
+  described : Description → Entry
   laid : ℕ → Held → Entry
   written : ℕ → ℕ → ℕ → Shown → Entry
 
 abbrev pub entry : Report → Entry
-entry (Described f n m places) = described f n m places
+entry (Described d) = described d
 entry (Laid place stripe) = laid place (held stripe)
 entry (Written bay place word rewrite) = written bay place word (shown rewrite)
 
@@ -33,7 +33,7 @@ answering f o = record { after = o.after; answer = answered f o.answer }
 
 -- what a command leaves, and what the account says of it
 abbrev pub carrying : Option Kept → Order → Outcome (Option Kept) Entry
-carrying s (archive f n m places) = answering (λ _. described f n m places) (describing s f n m places)
+carrying s (archive d) = answering (λ _. described d) (describing s d)
 carrying s (lay place words) = answering (laid place) (laying_in s place words)
 carrying s (write bay place word) = answering (written bay place word) (writing_in s bay place word)
 
@@ -56,7 +56,7 @@ Takes before after line r = Carried (option_map entry) (kept before) (kept after
 -- Where a word was written, the moved checks are the ones computed afresh.
 abbrev pub Afresh : Result (Option Report) Fault → Type 0
 Afresh (Ok None) = Unit {0}
-Afresh (Ok (Some (Described f n m places))) = Unit {0}
+Afresh (Ok (Some (Described d))) = Unit {0}
 Afresh (Ok (Some (Laid place stripe))) = Unit {0}
 Afresh (Ok (Some (Written bay place word rewrite))) = vec_items rewrite.after ≡ vec_items rewrite.afresh
 Afresh (Err e) = Unit {0}

@@ -37,19 +37,9 @@ impl Archive {
         ensures afresh { Afresh (answered Some result) }
     {
         match command {
-            Command::Archive {
-                field,
-                data_bays,
-                check_bays,
-                places,
-            } => {
-                self.contents = Contents::described(heap, field, data_bays, check_bays, places)?;
-                Ok(Report::Described {
-                    field,
-                    data_bays,
-                    check_bays,
-                    places,
-                })
+            Command::Archive(description) => {
+                self.contents = Contents::described(heap, description)?;
+                Ok(Report::Described(description))
             }
             Command::Lay { place, words } => {
                 let stripe = self.contents.lay(heap, place as usize, &words)?;

@@ -4,7 +4,7 @@ use crate::contents::Contents;
 use crate::fault::Fault;
 use crate::stripe::{Rewrite, Stripe};
 use crate::stripes::Stripes;
-use command::FieldName;
+use command::{Description, FieldName};
 use field::Field;
 use plan::Powers;
 use std::alloc::Global;
@@ -15,13 +15,15 @@ const MOST_PLACES: usize = 65_536;
 // New stripes by the plan of powers, with nothing laid.
 fn new_stripes<F: Field>(
     heap: Global,
-    data_bays: usize,
-    check_bays: usize,
-    places: usize,
+    description: Description,
 ) -> Result<Stripes<Powers<F>>, Fault>
-    ensures { MadeStripes data_bays check_bays places result }
+    ensures { MadeStripes description result }
 {
-    let plan = Powers::<F>::new(data_bays, check_bays)?;
+    let plan = Powers::<F>::new(
+        description.data_bays as usize,
+        description.check_bays as usize,
+    )?;
+    let places = description.places as usize;
     if places < 1 || places > MOST_PLACES {
         return Err(Fault::PlacesOutOfRange);
     }
@@ -30,30 +32,13 @@ fn new_stripes<F: Field>(
 
 impl Contents {
     // A new archive, with nothing laid.
-    pub fn described(
-        heap: Global,
-        field: FieldName,
-        data_bays: u32,
-        check_bays: u32,
-        places: u32,
-    ) -> Result<Contents, Fault>
-        ensures { Made field data_bays check_bays places result }
+    pub fn described(heap: Global, description: Description) -> Result<Contents, Fault>
+        ensures { Made description result }
     {
-        let (data_bays, check_bays, places) = (
-            data_bays as usize,
-            check_bays as usize,
-            places as usize,
-        );
-        match field {
-            FieldName::Nibble => Ok(Contents::Nibble(new_stripes(
-                heap, data_bays, check_bays, places,
-            )?)),
-            FieldName::Byte => Ok(Contents::Byte(new_stripes(
-                heap, data_bays, check_bays, places,
-            )?)),
-            FieldName::Count => Ok(Contents::Count(new_stripes(
-                heap, data_bays, check_bays, places,
-            )?)),
+        match description.field {
+            FieldName::Nibble => Ok(Contents::Nibble(new_stripes(heap, description)?)),
+            FieldName::Byte => Ok(Contents::Byte(new_stripes(heap, description)?)),
+            FieldName::Count => Ok(Contents::Count(new_stripes(heap, description)?)),
         }
     }
 

@@ -2,7 +2,7 @@ ghost use Rattle.std.specs.Prelude.{◌≡◌, codes};
 ghost use Rattle.archive.specs.Fields.{arithmetic_of};
 
 use crate::stripe::{Rewrite, Stripe};
-use command::FieldName;
+use command::{Description, FieldName};
 use field::{Byte, Count, Field, Nibble};
 use std::fmt;
 
@@ -10,12 +10,7 @@ use std::fmt;
 #[derive(Drop)]
 pub enum Report {
     // An archive was described: its field, its data and check bays, and its places.
-    Described {
-        field: FieldName,
-        data_bays: u32,
-        check_bays: u32,
-        places: u32,
-    },
+    Described(Description),
     // This stripe was laid at a place.
     Laid {
         place: u32,
@@ -83,12 +78,14 @@ impl fmt::Display for Rewrite {
 impl fmt::Display for Report {
     fn fmt<W: fmt::Write>(&self, f: &mut fmt::Formatter<W>) -> fmt::Result {
         match self {
-            Report::Described {
-                field,
-                data_bays,
-                check_bays,
-                places,
-            } => {
+            Report::Described(
+                Description {
+                    field,
+                    data_bays,
+                    check_bays,
+                    places,
+                },
+            ) => {
                 let order = order_of(*field);
                 write!(
                     f,

@@ -6,7 +6,7 @@ use Rattle.command.specs.Reading.{archive, lay, write, reading, archiving}
 use Rattle.command.specs.declared.command.FieldName.TheVariants.{Byte}
 use Rattle.command.specs.declared.command.Fault.TheVariants.{UnknownCommand, UnknownPlan, NotANumber, TokenCount}
 
-archives : reading (codes "archive byte powers 4 2 100") ≡ Ok (Some (archive Byte 4 2 100))
+archives : reading (codes "archive byte powers 4 2 100") ≡ Ok (Some (archive (record { field = Byte; data_bays = 4; check_bays = 2; places = 100 })))
 unfolding reading archiving
 archives = refl
 

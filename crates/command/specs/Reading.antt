@@ -7,6 +7,7 @@ use Rattle.command.specs.Lines.{line_means, present}
 use Rattle.command.specs.Outcome.{following, Answers}
 use Rattle.command.specs.declared.command.Command.{Command}
 use Rattle.command.specs.declared.command.Command.TheVariants.{Archive, Lay, Write}
+use Rattle.command.specs.declared.command.Description.{Description}
 use Rattle.command.specs.declared.command.FieldName.{FieldName}
 use Rattle.command.specs.declared.command.FieldName.TheVariants.{Nibble, Byte, Count}
 use Rattle.command.specs.declared.command.Fault.{Fault}
@@ -14,13 +15,13 @@ use Rattle.command.specs.declared.command.Fault.TheVariants.{UnknownCommand, Unk
 
 -- a command, with its words as a list; its parts are in the order of the tokens
 pub data Order : Type 0 where
-  archive : FieldName → ℕ → ℕ → ℕ → Order
+  archive : Description → Order
   lay : ℕ → List ℕ → Order
   write : ℕ → ℕ → ℕ → Order
 
 -- the command that a value of the program stands for
 abbrev pub meant : Command → Order
-meant (Archive field bays checks places) = archive field bays checks places
+meant (Archive d) = archive d
 meant (Lay place words) = lay place (vec_items words)
 meant (Write bay place word) = write bay place word
 
@@ -47,7 +48,7 @@ unfoldable pub archiving : List (List ℕ) → Result Order Fault
 archiving ts =
     token_then ts (λ field us. following (field_of field) (λ f.
     token_then us (λ plan vs. following (plan_of plan) (λ _.
-    taking (exactly 3) 4 vs (λ n. archive f (slice_index n 0) (slice_index n 1) (slice_index n 2))))))
+    taking (exactly 3) 4 vs (λ n. archive (record { field = f; data_bays = slice_index n 0; check_bays = slice_index n 1; places = slice_index n 2 }))))))
 
 -- lay PLACE WORD WORD ..
 abbrev pub laying : List (List ℕ) → Result Order Fault

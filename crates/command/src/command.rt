@@ -57,27 +57,24 @@ impl fmt::Display for FieldName {
     }
 }
 
+// What an archive is to be: the field of its words, how many bays hold data, how many hold checks, and how many places each bay has.
+#[derive(Clone, Copy, Debug, PartialEq, Eq)]
+pub struct Description {
+    pub field: FieldName,
+    pub data_bays: u32,
+    pub check_bays: u32,
+    pub places: u32,
+}
+
 // What a line asks for. A bay is a device, a place a position on each device, and a word the number in one cell.
 #[derive(Debug, Drop, PartialEq, Eq)]
 pub enum Command {
-    // Build an archive: how many bays hold data, how many hold checks, and how many places each bay has.
-    Archive {
-        field: FieldName,
-        data_bays: u32,
-        check_bays: u32,
-        places: u32,
-    },
+    // Build an archive.
+    Archive(Description),
     // Put the words, one for each data bay, at a place.
-    Lay {
-        place: u32,
-        words: Vec<u32>,
-    },
+    Lay { place: u32, words: Vec<u32> },
     // Put one word at a place of a bay.
-    Write {
-        bay: u32,
-        place: u32,
-        word: u32,
-    },
+    Write { bay: u32, place: u32, word: u32 },
 }
 
 // Why a line gives no command.

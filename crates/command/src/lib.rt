@@ -9,5 +9,5 @@ mod number;
 mod read;
 
 pub use calls::{ShelfCall, read_call, read_drill};
-pub use command::{Command, Fault, FieldName};
+pub use command::{Command, Description, Fault, FieldName};
 pub use read::read_command;

@@ -7,7 +7,7 @@ ghost use Rattle.command.specs.Reading.{Reads, meant, named, archiving, plan_of}
 ghost use Rattle.command.specs.Cursors.{tokens_left};
 
 use crate::arguments::{read_exactly, read_one_and_rest};
-use crate::command::{Command, Fault, FieldName};
+use crate::command::{Command, Description, Fault, FieldName};
 use crate::cursor::{Cursor, name_of};
 use std::alloc::Global;
 
@@ -49,12 +49,12 @@ fn read_archive(heap: Global, mut arguments: Cursor) -> Result<Command, Fault>
     let field = FieldName::try_from(arguments.next().ok_or(Fault::TokenCount)?)?;
     read_plan(arguments.next().ok_or(Fault::TokenCount)?)?;
     let [data_bays, check_bays, places] = read_exactly::<3>(heap, arguments, 4)?;
-    Ok(Command::Archive {
+    Ok(Command::Archive(Description {
         field,
         data_bays,
         check_bays,
         places,
-    })
+    }))
 }
 
 // Whether a token names a plan. There is only one, so nothing else is told.

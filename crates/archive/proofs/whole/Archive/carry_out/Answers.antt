@@ -10,7 +10,7 @@ use Rattle.archive.proofs.whole.Archive.carry_out.Goals as goal
 pub invariant_of-self : goal.invariant_of-self
 invariant_of-self c =
     let made = c.in_ok-self-in-Archive.ensures in
-    record { coded = ∣ subst AllCoded (sym made.1) (fresh_coded c.in-Archive.field c.in-Archive.data_bays c.in-Archive.check_bays c.in-Archive.places made.0) ∣₁ }
+    record { coded = ∣ subst AllCoded (sym made.1) (fresh_coded c.in-Archive.description made.0) ∣₁ }
 
 pub invariant_of-self-in-Lay : goal.invariant_of-self-in-Lay
 invariant_of-self-in-Lay c =
