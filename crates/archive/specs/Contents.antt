@@ -1,4 +1,5 @@
 -- What an archive holds: its field, its numbers of data and check bays, and the stripes at its places.
+use Rattle.std.specs.Option.{option_map}
 use Rattle.std.specs.Prelude.{◌≡◌, ℕ, Bool, cond, ◌&&◌, ◌⊎◌, List, replicate, Some, None, Ok, Err, vec_items, Option, Result, nat_le}
 use Rattle.plan.specs.Coefficients.{Coefficients, Fitting}
 use Rattle.plan.specs.Powers.{powers}
@@ -12,7 +13,7 @@ use Rattle.archive.specs.Fields.{arithmetic_of}
 use Rattle.archive.specs.Outcome.{Outcome, refused, Carried}
 use Rattle.archive.specs.Stripes.{Held, Shown, held, shown, held_at, laying, writing, Sound}
 use Rattle.archive.specs.declared.contents.Contents.{Contents}
-use Rattle.archive.specs.declared.contents.Contents.TheVariants.{Nothing, Nibble, Byte, Count}
+use Rattle.archive.specs.declared.contents.Contents.TheVariants.{Nibble, Byte, Count}
 use Rattle.archive.specs.declared.fault.Fault.{Fault}
 use Rattle.archive.specs.declared.fault.Fault.TheVariants.{NoArchive, Plan, PlacesOutOfRange, Memory}
 use Rattle.archive.specs.declared.stripe.Stripe.{Stripe}
@@ -33,12 +34,14 @@ kept_by f s = record {
   places = held_at (vec_items s.places);
 }
 
+abbrev pub kept_in : Contents → Kept
+kept_in (Nibble s) = kept_by name.Nibble s
+kept_in (Byte s) = kept_by name.Byte s
+kept_in (Count s) = kept_by name.Count s
+
 -- none, where no archive is described yet
-abbrev pub kept : Contents → Option Kept
-kept Nothing = None
-kept (Nibble s) = Some (kept_by name.Nibble s)
-kept (Byte s) = Some (kept_by name.Byte s)
-kept (Count s) = Some (kept_by name.Count s)
+abbrev pub kept : Option Contents → Option Kept
+kept contents = option_map kept_in contents
 
 -- its plan is the plan of powers
 abbrev pub plan_of : Kept → Coefficients
@@ -91,7 +94,7 @@ AllCoded (Some v) = Fitting (arithmetic_of v.field) (plan_of v) × Sound (arithm
 
 -- The contents that a description makes, as answered: fresh ones, or why there are none.
 abbrev pub Made : Description → Result Contents Fault → Type 0
-Made d (Ok c) = (description_fault d ≡ None) × (kept c ≡ Some (fresh d))
+Made d (Ok c) = (description_fault d ≡ None) × (kept_in c ≡ fresh d)
 Made d (Err e) = (description_fault d ≡ Some e) ⊎ (e ≡ Memory)
 
 -- The same of the stripes alone.
@@ -103,7 +106,7 @@ MadeStripes d (Err e) = (description_fault d ≡ Some e) ⊎ (e ≡ Memory)
 
 -- What the calls promise of the contents before and after them.
 abbrev pub LaysIn : Contents → Contents → ℕ → List ℕ → Result Stripe Fault → Type 0
-LaysIn before after place words r = Carried held (kept before) (kept after) (laying_in (kept before) place words) r
+LaysIn before after place words r = Carried held (Some (kept_in before)) (Some (kept_in after)) (laying_in (Some (kept_in before)) place words) r
 
 abbrev pub WritesIn : Contents → Contents → ℕ → ℕ → ℕ → Result Rewrite Fault → Type 0
-WritesIn before after bay place word r = Carried shown (kept before) (kept after) (writing_in (kept before) bay place word) r
+WritesIn before after bay place word r = Carried shown (Some (kept_in before)) (Some (kept_in after)) (writing_in (Some (kept_in before)) bay place word) r

@@ -47,10 +47,10 @@ abbrev pub taking : Option Kept → List ℕ → Outcome (Option Kept) (Option E
 taking s line = taking_read s (reading line)
 
 -- What a command, and a line, promise of the contents before and after them.
-abbrev pub Carries : Contents → Contents → Command → Result Report Fault → Type 0
+abbrev pub Carries : Option Contents → Option Contents → Command → Result Report Fault → Type 0
 Carries before after command r = Carried entry (kept before) (kept after) (carrying (kept before) (meant command)) r
 
-abbrev pub Takes : Contents → Contents → List ℕ → Result (Option Report) Fault → Type 0
+abbrev pub Takes : Option Contents → Option Contents → List ℕ → Result (Option Report) Fault → Type 0
 Takes before after line r = Carried (option_map entry) (kept before) (kept after) (taking (kept before) line) r
 
 -- Where a word was written, the moved checks are the ones computed afresh.

@@ -14,9 +14,7 @@ impl Archive {
     pub fn new() -> Archive
         ensures { kept result.contents ≡ None }
     {
-        Archive {
-            contents: Contents::Nothing,
-        }
+        Archive { contents: None }
     }
 
     // Carries out one line of a script, and answers what the account says of it: nothing, where the line means nothing.
@@ -38,17 +36,21 @@ impl Archive {
     {
         match command {
             Command::Archive(description) => {
-                self.contents = Contents::described(heap, description)?;
+                self.contents = Some(Contents::described(heap, description)?);
                 Ok(Report::Described(description))
             }
             Command::Lay { place, words } => {
-                let stripe = self.contents.lay(heap, place as usize, &words)?;
+                let Some(contents) = &mut self.contents else {
+                    return Err(Fault::NoArchive);
+                };
+                let stripe = contents.lay(heap, place as usize, &words)?;
                 Ok(Report::Laid { place, stripe })
             }
             Command::Write { bay, place, word } => {
-                let rewrite = self
-                    .contents
-                    .write(heap, bay as usize, place as usize, word)?;
+                let Some(contents) = &mut self.contents else {
+                    return Err(Fault::NoArchive);
+                };
+                let rewrite = contents.write(heap, bay as usize, place as usize, word)?;
                 Ok(Report::Written {
                     bay,
                     place,

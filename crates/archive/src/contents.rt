@@ -5,8 +5,6 @@ use plan::Powers;
 // What an archive holds, by its field.
 #[derive(Drop)]
 pub enum Contents {
-    // No archive is described yet.
-    Nothing,
     Nibble(Stripes<Powers<Nibble>>),
     Byte(Stripes<Powers<Byte>>),
     Count(Stripes<Powers<Count>>),

@@ -7,10 +7,8 @@ use crate::stripes::Stripes;
 use command::{Description, FieldName};
 use field::Field;
 use plan::Powers;
+use shelf::MOST_PLACES;
 use std::alloc::Global;
-
-// The most places of an archive.
-const MOST_PLACES: usize = 65_536;
 
 // New stripes by the plan of powers, with nothing laid.
 fn new_stripes<F: Field>(
@@ -24,7 +22,7 @@ fn new_stripes<F: Field>(
         description.check_bays as usize,
     )?;
     let places = description.places as usize;
-    if places < 1 || places > MOST_PLACES {
+    if !(1..=MOST_PLACES).contains(&places) {
         return Err(Fault::PlacesOutOfRange);
     }
     Ok(Stripes::new(heap, plan, places)?)
@@ -47,7 +45,6 @@ impl Contents {
         ensures { LaysIn self.old self.new place words.now result }
     {
         match self {
-            Contents::Nothing => Err(Fault::NoArchive),
             Contents::Nibble(stripes) => stripes.lay(heap, place, words),
             Contents::Byte(stripes) => stripes.lay(heap, place, words),
             Contents::Count(stripes) => stripes.lay(heap, place, words),
@@ -65,7 +62,6 @@ impl Contents {
         ensures { WritesIn self.old self.new bay place word result }
     {
         match self {
-            Contents::Nothing => Err(Fault::NoArchive),
             Contents::Nibble(stripes) => stripes.write(heap, bay, place, word),
             Contents::Byte(stripes) => stripes.write(heap, bay, place, word),
             Contents::Count(stripes) => stripes.write(heap, bay, place, word),

@@ -63,15 +63,9 @@ impl fmt::Display for Fault {
         match *self {
             Fault::Text(fault) => write!(f, "{fault}"),
             Fault::NoArchive => write!(f, "no archive is described yet"),
-            Fault::Plan(refusal) => {
-                let number = refusal.number();
-                write!(f, "refused by {number}: {refusal}")
-            }
+            Fault::Plan(refusal) => write!(f, "refused by {}: {refusal}", refusal.number()),
             Fault::PlacesOutOfRange => write!(f, "an archive has 1 to 65536 places"),
-            Fault::Refused(refusal) => {
-                let number = refusal.number();
-                write!(f, "refused by {number}: {refusal}")
-            }
+            Fault::Refused(refusal) => write!(f, "refused by {}: {refusal}", refusal.number()),
             Fault::Memory => write!(f, "out of memory"),
         }
     }

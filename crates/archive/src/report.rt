@@ -67,11 +67,14 @@ impl Rewrite {
 
 impl fmt::Display for Rewrite {
     fn fmt<W: fmt::Write>(&self, f: &mut fmt::Formatter<W>) -> fmt::Result {
-        let before = Row(&self.before);
-        let after = Row(&self.after);
-        let afresh = Row(&self.afresh);
-        let verdict = self.verdict();
-        write!(f, "checks {before} to {after}, afresh {afresh}: {verdict}")
+        write!(
+            f,
+            "checks {} to {}, afresh {}: {}",
+            Row(&self.before),
+            Row(&self.after),
+            Row(&self.afresh),
+            self.verdict()
+        )
     }
 }
 
@@ -93,9 +96,12 @@ impl fmt::Display for Report {
                 )
             }
             Report::Laid { place, stripe } => {
-                let words = Row(&stripe.words);
-                let checks = Row(&stripe.checks);
-                write!(f, "place {place}: data {words}, checks {checks}")
+                write!(
+                    f,
+                    "place {place}: data {}, checks {}",
+                    Row(&stripe.words),
+                    Row(&stripe.checks)
+                )
             }
             Report::Written {
                 bay,
@@ -103,10 +109,10 @@ impl fmt::Display for Report {
                 word,
                 rewrite,
             } => {
-                let old = rewrite.old;
                 write!(
                     f,
-                    "place {place}: bay {bay} from {old} to {word}, {rewrite}"
+                    "place {place}: bay {bay} from {} to {word}, {rewrite}",
+                    rewrite.old
                 )
             }
         }

@@ -5,6 +5,6 @@ use crate::contents::Contents;
 // An archive in memory, none at first. The checks of every stripe in it are those that its words give.
 #[derive(Drop)]
 pub struct Archive {
-    pub(crate) contents: Contents,
+    pub(crate) contents: Option<Contents>,
     ghost coded: { ∥ AllCoded (kept contents) ∥₁ },
 }
