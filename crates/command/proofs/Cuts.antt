@@ -30,11 +30,11 @@ first_token c (d ∷ rest) h =
     (λ (k : blank d ≡ false). simp (h, k, one-add, simp (k, one-add) at (first_token d rest k)))
     (cases_Bool (blank d))
 
--- a text whose byte at i is no blank goes on there with such a byte
+-- so are those of a text from a byte on that is no blank, since it goes on with that byte
 begins : (s : List ℕ) (i : ℕ) → i < length s → blank (get_or s i 0) ≡ false → tokens (drop i s) ≡ take (prefix_len solid (drop i s)) (drop i s) ∷ tokens (drop (prefix_len solid (drop i s)) (drop i s))
 begins s i lt h = rw (drop_more s i 0 lt) (first_token (get_or s i 0) (drop (i + 1) s) h)
 
--- the bytes from the first that is no blank up to the next blank are the first token, and the others come after it
+-- the first token begins at the first byte that is no blank and ends at the next blank, and the others come after it
 pub one_token : (s t : List ℕ) (i n : ℕ) → position solid s ≡ Some i → t ≡ drop i s → n ≡ prefix_len solid t → tokens s ≡ take n t ∷ tokens (drop n t)
 one_token s t i n e cut end =
     let at = position-Some solid s i 0 e in

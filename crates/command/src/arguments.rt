@@ -1,8 +1,8 @@
 // Reads the tokens after a line's name, where they are numbers. All are read, and only where none is wrong does their number count.
 // The next token is number `first` of its line, which a fault counts from.
 ghost use Rattle.command.specs.Arguments.{exactly, one_and_rest, counted};
-ghost use Rattle.command.specs.Outcome.{Answers};
 ghost use Rattle.command.specs.Cursors.{tokens_left};
+ghost use Rattle.command.specs.Outcome.{Answers};
 
 use crate::command::Fault;
 use crate::cursor::Cursor;

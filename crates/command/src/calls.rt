@@ -1,8 +1,8 @@
 // Reads the lines of a drill: the line that begins it, and the calls of a shelf that come after. The tokens after a line's name are
 // numbers. A call is one branch of `read_call_named` and one definition of what its tokens mean.
 ghost use Rattle.command.specs.Calls.{ReadsCall, ReadsDrill, called, call_named};
-ghost use Rattle.command.specs.Outcome.{Answers};
 ghost use Rattle.command.specs.Cursors.{tokens_left};
+ghost use Rattle.command.specs.Outcome.{Answers};
 
 use crate::arguments::{read_exactly, read_one_and_rest};
 use crate::command::Fault;

@@ -3,8 +3,8 @@ ghost use Rattle.std.specs.Prelude.{◌≡◌};
 ghost use Rattle.std.specs.Iterator.{YieldsFirstRef, item_count};
 ghost use Rattle.std.specs.List.{position, prefix_len};
 ghost use Rattle.std.specs.Option.{option_map};
-ghost use Rattle.command.specs.Lines.{naming};
 ghost use Rattle.command.specs.Cursors.{tokens_left};
+ghost use Rattle.command.specs.Lines.{naming};
 ghost use Rattle.command.specs.Tokens.{blank, solid, tokens};
 
 // What is left of a line after the tokens that were taken from it.

@@ -1,8 +1,8 @@
 // Reads tokens as decimal numbers.
 ghost use Rattle.std.specs.Prelude.{◌≡◌, vec_items};
+ghost use Rattle.command.specs.Cursors.{tokens_left};
 ghost use Rattle.command.specs.Numerals.{numeral, numerals};
 ghost use Rattle.command.specs.Outcome.{Answers};
-ghost use Rattle.command.specs.Cursors.{tokens_left};
 
 use crate::command::Fault;
 use crate::cursor::Cursor;

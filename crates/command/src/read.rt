@@ -2,9 +2,9 @@
 // first that is wrong is the fault, and only where none is wrong does their number count. A command is one branch
 // of `read_named` and one definition of what its tokens mean.
 ghost use Rattle.std.specs.Prelude.{◌≡◌};
+ghost use Rattle.command.specs.Cursors.{tokens_left};
 ghost use Rattle.command.specs.Outcome.{Answers};
 ghost use Rattle.command.specs.Reading.{Reads, meant, named, archiving, plan_of};
-ghost use Rattle.command.specs.Cursors.{tokens_left};
 
 use crate::arguments::{read_exactly, read_one_and_rest};
 use crate::command::{Command, Description, Fault, FieldName};
