@@ -43,7 +43,7 @@ plan_of t = cond (bytes_eq t (codes "powers")) (Ok tt) (Err UnknownPlan)
 -- What the tokens after a command's name mean. They are read from left to right, and the first that is wrong is the fault;
 -- where none is, it is a fault that there are too few or too many.
 
--- archive FIELD PLAN DATA CHECKS PLACES
+-- archive FIELD PLAN DATA CHECKS PLACES; a proof opens it by name, since it is longer than the others
 unfoldable pub archiving : List (List ℕ) → Result Order Fault
 archiving ts =
     token_then ts (λ field us. following (field_of field) (λ f.
