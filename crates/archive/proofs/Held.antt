@@ -1,6 +1,5 @@
 -- What is held at a place, and in an archive.
-use Rattle.std.proofs.Common.{◌≡◌, ℕ, Bool, false, List, Decides, Option, ap₂}
-use Rattle.std.proofs.lemmas.Bool.{both_ways}
+use Rattle.std.proofs.Common.{◌≡◌, ℕ, List, Option, ap₂}
 use Rattle.command.specs.declared.command.FieldName.{FieldName}
 use Rattle.archive.specs.Stripes.{Held}
 use Rattle.archive.specs.Contents.{Kept}
@@ -12,7 +11,3 @@ both-held p q = ap₂ (λ (ws cs : List ℕ). record { words = ws; checks = cs }
 -- equal parts are the same archive
 pub all-kept : {f g : FieldName} {n i m j : ℕ} {ps qs : List (Option Held)} → f ≡ g → n ≡ i → m ≡ j → ps ≡ qs → ◌≡◌ {A = Kept} (record { field = f; data_bays = n; check_bays = m; places = ps }) (record { field = g; data_bays = i; check_bays = j; places = qs })
 all-kept p q r s = λ t. record { field = p t; data_bays = q t; check_bays = r t; places = s t }
-
--- a test that fails denies what it decides
-pub undecided : {P : Type 0} (r : Bool) → Decides r P → r ≡ false → P → ⊥
-undecided r d e p = both_ways r e (d.1 p)

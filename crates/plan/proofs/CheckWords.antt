@@ -1,41 +1,11 @@
--- All checks of a place: one more of them, and how they follow the words when each is moved.
-use Rattle.std.proofs.Common.{◌≡◌, ℕ, zero, suc, ◌+◌, ◌%◌, ◌<◌, List, [], ◌∷◌, ◌++◌, map, length, get_or, take, set, sym, refl, ap, ◌∙◌, ap₂, add-zero, add-one, mod-eq_of_lt, zero-add, arith}
-use Rattle.std.proofs.lemmas.List.{take_more, length-take-le}
-use Rattle.std.proofs.lemmas.List.FromFn.{map-range_with_len_more}
+-- All checks of a place, and how they follow the words when each is moved.
+use Rattle.std.proofs.Common.{◌≡◌, ℕ, zero, suc, ◌+◌, ◌%◌, ◌<◌, List, [], ◌∷◌, map, get_or, set, sym, refl, ap, ◌∙◌, ap₂, add-one, mod-eq_of_lt}
 use Rattle.std.specs.List.{range_with_len}
 use Rattle.field.specs.Arithmetic.{Arithmetic, Lawful}
 use Rattle.plan.specs.Coefficients.{Coefficients, Fitting}
-use Rattle.plan.specs.Rows.{row, Vector, codes, check_on, checks_on, moved, all_moved}
+use Rattle.plan.specs.Rows.{row, Vector, codes, check_on, checks_on, all_moved}
 use Rattle.plan.proofs.Dots.{Codes, vector_codes, dot_below}
 use Rattle.plan.proofs.Rows.{row-codes, moved_follows}
-
--- the checks below number i
-abbrev pub checks_to : Arithmetic → Coefficients → List ℕ → ℕ → List ℕ
-checks_to k x v i = map (λ i. check_on k x i v) (range_with_len 0 i)
-
--- those below m are all
-pub all_checks : (k : Arithmetic) (x : Coefficients) (v : List ℕ) → checks_to k x v x.m ≡ checks_on k x v
-unfolding checks_on
-all_checks k x v = refl
-
--- one check more
-pub checks_more : (k : Arithmetic) (x : Coefficients) (v : List ℕ) (i : ℕ) → checks_to k x v (i + 1) ≡ checks_to k x v i ++ check_on k x i v ∷ []
-checks_more k x v i = map-range_with_len_more (λ i. check_on k x i v) 0 i i (zero-add i)
-
--- the last of the moved checks
-moved_last : (k : Arithmetic) (x : Coefficients) (i j old new : ℕ) (cs : List ℕ) (c : ℕ) → all_moved k x i j old new (cs ++ c ∷ []) ≡ all_moved k x i j old new cs ++ moved k x (i + length cs) j c old new ∷ []
-moved_last k x i j old new [] c = ap (λ n. moved k x n j c old new ∷ []) (sym (add-zero i))
-moved_last k x i j old new (d ∷ cs) c =
-    ap (λ ys. moved k x i j d old new ∷ ys)
-    (moved_last k x (suc i) j old new cs c
-    ∙ ap (λ n. all_moved k x (suc i) j old new cs ++ moved k x n j c old new ∷ []) (let e : suc i + length cs ≡ i + suc (length cs) = omega arith in e))
-
--- one moved check more
-pub moved_more : (k : Arithmetic) (x : Coefficients) (j old new : ℕ) (cs : List ℕ) (i : ℕ) → i < length cs → all_moved k x 0 j old new (take (i + 1) cs) ≡ all_moved k x 0 j old new (take i cs) ++ moved k x i j (get_or cs i 0) old new ∷ []
-moved_more k x j old new cs i d =
-    ap (all_moved k x 0 j old new) (take_more cs i 0 d)
-    ∙ moved_last k x 0 j old new (take i cs) (get_or cs i 0)
-    ∙ ap (λ n. all_moved k x 0 j old new (take i cs) ++ moved k x n j (get_or cs i 0) old new ∷ []) (zero-add (length (take i cs)) ∙ length-take-le i cs (omega arith))
 
 -- codes count as themselves
 pub codes_same : (k : Arithmetic) (v : List ℕ) → Codes k v → codes k v ≡ v
