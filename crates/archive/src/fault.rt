@@ -4,22 +4,28 @@ ghost use Rattle.archive.specs.declared.fault.Fault.TheVariants.{Memory, Plan, R
 
 use shelf::Refusal;
 use std::alloc::AllocError;
-use std::fmt;
+use thiserror::Error;
 
 // Why a line was not carried out. Then nothing was changed.
-#[derive(Clone, Copy)]
+#[derive(Clone, Copy, Debug, Error)]
 pub enum Fault {
     // The line gives no command.
+    #[error("{0}")]
     Text(command::Fault),
     // No archive is described yet.
+    #[error("no archive is described yet")]
     NoArchive,
     // The archive's plan is refused.
+    #[error("refused by {}: {}", .0.number(), .0)]
     Plan(plan::Refusal),
     // The archive has not 1 to 65,536 places.
+    #[error("an archive has 1 to 65536 places")]
     PlacesOutOfRange,
     // The call is refused.
+    #[error("refused by {}: {}", .0.number(), .0)]
     Refused(Refusal),
     // There was no memory for the line, or for the new words.
+    #[error("out of memory")]
     Memory,
 }
 
@@ -54,19 +60,6 @@ impl From<command::Fault> for Fault {
         match e {
             command::Fault::Memory => Fault::Memory,
             other => Fault::Text(other),
-        }
-    }
-}
-
-impl fmt::Display for Fault {
-    fn fmt<W: fmt::Write>(&self, f: &mut fmt::Formatter<W>) -> fmt::Result {
-        match *self {
-            Fault::Text(fault) => write!(f, "{fault}"),
-            Fault::NoArchive => write!(f, "no archive is described yet"),
-            Fault::Plan(refusal) => write!(f, "refused by {}: {refusal}", refusal.number()),
-            Fault::PlacesOutOfRange => write!(f, "an archive has 1 to 65536 places"),
-            Fault::Refused(refusal) => write!(f, "refused by {}: {refusal}", refusal.number()),
-            Fault::Memory => write!(f, "out of memory"),
         }
     }
 }

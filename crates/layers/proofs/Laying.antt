@@ -1,18 +1,19 @@
 -- A lay on a pair: each of the two lays its part of the words, and their bits are joined.
-use Rattle.std.proofs.Common.{◌≡◌, ℕ, ◌+◌, ◌-◌, ◌*◌, ◌/◌, ◌%◌, ◌^◌, ◌<◌, ◌≤◌, true, false, ◌||◌, eqb, leb, List, [], ◌∷◌, ◌++◌, length, get_or, take, drop, None, Ok, Err, sym, refl, ap, ◌∙◌, subst, ⊎_elim, mul_assoc, arith}
+use Rattle.std.proofs.Common.{◌≡◌, ℕ, ◌+◌, ◌-◌, ◌*◌, ◌/◌, ◌%◌, ◌^◌, ◌<◌, ◌≤◌, true, false, ◌||◌, eqb, leb, List, [], ◌∷◌, ◌++◌, length, get_or, take, drop, None, Ok, Err, Result, sym, refl, ap, ◌∙◌, subst, ⊎_elim, mul_assoc, arith}
 use native.Mathlib.Nat.{mul-add-div_right, mul-add-mod_self_right}
 use lib.Bits.{bit_or}
 use Rattle.std.proofs.lemmas.Bool.{cases_lt, or_parts}
 use Rattle.std.proofs.lemmas.List.{take-append-drop, take_rest, length-take-le, length-drop, get_or-take, get_or-drop}
 use Rattle.std.proofs.lemmas.Nat.{pow_pos, pow-add, shl_whole, or_shifted, shr-shr, shr_high, mul-add-lt}
 use Rattle.shelf.specs.declared.refusal.Refusal.{Refusal}
-use Rattle.shelf.specs.Refusals.{too_large}
-use Rattle.shelf.specs.Table.{Table, Cell, SameShape, Decayed, Kept}
-use Rattle.shelf.specs.Calls.{Settled, refuses_lay, LayAnswer, Laid, Set, ThisPlace, bit}
-use Rattle.shelf.proofs.Settling.{lay_there, done, when_done}
+use Rattle.shelf.specs.declared.shape.Shape.{Shape}
+use Rattle.shelf.specs.Refusals.{too_large, lay_refusal}
+use Rattle.shelf.specs.Table.{Table, Cell, Shaped, SameShape, Decayed, Kept}
+use Rattle.shelf.specs.Calls.{Outcome, Settled, refuses_lay, LayAnswer, Laid, Set, ThisPlace, bit}
+use Rattle.shelf.proofs.Settling.{lay_there, tested_lay, done, when_done}
 use Rattle.shelf.proofs.Words.{Fit, lay_fit}
 use Rattle.layers.specs.Pairs.{fits, paired}
-use Rattle.layers.proofs.Beside.{fit_table, fits_few, fits_places, fits_limit, cell_first, cell_second, running_first, running_second, pair_shape}
+use Rattle.layers.proofs.Beside.{fit_table, fit_by_place, fits_few, fits_places, fits_limit, cell_first, cell_second, running_first, running_second, pair_shape}
 
 -- the joined bits
 
@@ -50,12 +51,29 @@ too_large-append limit [] ys = refl
 too_large-append limit (x ∷ xs) ys =
     elim (leb limit x) as (λ t. (t || too_large limit (xs ++ ys)) ≡ ((t || too_large limit xs) || too_large limit ys)) [ true ↦ refl | false ↦ too_large-append limit xs ys ]
 
--- the parts of the slice that the two shelves are lent
-pub first_slice : (ws : List ℕ) (cut bays : ℕ) → cut ≡ bays → take cut ws ≡ take bays ws
-first_slice ws cut bays e = ap (λ n. take n ws) e
+-- What a lay on a pair knows once the tests let it through: the two go together, and the bays of the first cut the words.
+pub record Cut (s t : Table) (p : ℕ) (ws : List ℕ) (cut : ℕ) : Type 0 where
+  pub none : refuses_lay p ws (paired s t) ≡ None
+  pub fit : fits s t ≡ true
+  pub at : cut ≡ s.bays
+  pub within : cut ≤ length ws
 
-pub second_slice : (ws : List ℕ) (cut k : ℕ) → cut ≡ k → take (length ws - cut) (drop cut ws) ≡ drop k ws
-second_slice ws cut k e = take_rest ws cut ∙ ap (λ n. drop n ws) e
+-- the tests of the pair's shape, and the shape of the first
+pub cut_by : (s t : Table) (n m : ℕ × ℕ × ℕ) (shape : Shape) → Shaped (paired s t) n → (shape.bays ≡ n.0) × (shape.places ≡ n.1) × (shape.limit ≡ n.2) → Shaped s m → (p : ℕ) (ws : List ℕ) → lay_refusal shape.bays shape.places shape.limit p ws ≡ None → Cut s t p ws m.0
+cut_by s t n m shape is from first p ws e =
+    let none = tested_lay (paired s t) n shape is from p ws e in
+    let h = lay_fit (paired s t).bays (paired s t).places (paired s t).limit p ws none in
+    let fit = fit_by_place s t p h.room in
+    let all = ap (λ (u : Table). u.bays) (fit_table s t fit) in
+    record { none = none; fit = fit; at = first.bays; within = omega (arith, h.count, all, first.bays) }
+
+module _ {S : Type 0} (f : S → Table) (P : S → Type 0) (x y : S) (p : ℕ) (ws : List ℕ) (cut k : ℕ) (at : cut ≡ k) (r : Result ℕ Refusal) where
+  -- what the first shelf shows, and the second, of the part of the words that each is lent
+  pub of_first : Outcome f P x y (refuses_lay p (take cut ws)) (LayAnswer p (take cut ws)) r → Outcome f P x y (refuses_lay p (take k ws)) (LayAnswer p (take k ws)) r
+  of_first h = subst (λ n. Outcome f P x y (refuses_lay p (take n ws)) (LayAnswer p (take n ws)) r) at h
+
+  pub of_second : Outcome f P x y (refuses_lay p (take (length ws - cut) (drop cut ws))) (LayAnswer p (take (length ws - cut) (drop cut ws))) r → Outcome f P x y (refuses_lay p (drop k ws)) (LayAnswer p (drop k ws)) r
+  of_second h = subst (λ (vs : List ℕ). Outcome f P x y (refuses_lay p vs) (LayAnswer p vs) r) (take_rest ws cut ∙ ap (λ n. drop n ws) at) h
 
 -- what a cell keeps, under equal cells
 kept_as : (x x' y y' : Cell) → x' ≡ x → y' ≡ y → Kept x y → Kept x' y'

@@ -8,7 +8,7 @@ use Rattle.shelf.specs.Calls.{refuses_word, refuses_lay, refuses_exchange, Writt
 use Rattle.shelf.proofs.Words.{bay_fit}
 use Rattle.trays.specs.Device.{one_bay}
 use Rattle.trays.specs.Image.{byte_limit, counted, count_of, mark_at, word_at, is_image, marked, image_device, bytes_table, filling, unmarked}
-use Rattle.trays.proofs.OneBay.{KeptPromise, Stored, Blanked, fit_by_bay, fit_by_place, own_place, own_places, own_limit, lay_bounds, one-laid, one_exchanged}
+use Rattle.trays.proofs.OneBay.{KeptPromise, Stored, Blanked, fit_by_bay, fit_by_place, own_place, own_places, own_limit, bounds, lay_bounds, one_written, one_patched, one-laid, one_exchanged}
 
 -- what the bytes of an image are: the tests that they pass, read as facts
 pub image_parts : (bytes : List ℕ) → is_image bytes ≡ true → (1 ≤ count_of bytes) × (length bytes ≡ 4 + 2 * count_of bytes) × (counted bytes (2 + count_of bytes) ≡ count_of bytes)
@@ -68,6 +68,10 @@ marked_holds mark byte e h = marked_filled mark byte e ∙ ap holds (mod-eq_of_l
 
 -- the marks and words of the other places stay, where only those of one place were set
 module _ (bytes : List ℕ) (p w : ℕ) (h : p < count_of bytes) (long : length bytes ≡ 4 + 2 * count_of bytes) (k : w < byte_limit) where
+  -- the byte of a word lies past the counts, the byte of a mark between them
+  word_layout : SameLayout bytes (set bytes (word_at bytes p) w)
+  word_layout = set_layout bytes (word_at bytes p) w (inr (omega arith))
+
   mark_layout : SameLayout bytes (set bytes (mark_at p) 1)
   mark_layout = set_layout bytes (mark_at p) 1 (inl (omega arith, omega arith))
 
@@ -76,6 +80,20 @@ module _ (bytes : List ℕ) (p w : ℕ) (h : p < count_of bytes) (long : length 
   filling_layout =
       let m = set bytes (mark_at p) 1 in
       layout_trans bytes m (filling bytes p w) mark_layout (set_layout m (word_at bytes p) w (inr (let e = mark_layout.count in omega arith)))
+
+  -- the word alone, where the mark is 1 already
+  pub word_stored : get_or bytes (mark_at p) 0 ≡ 1 → Stored p w (image_device bytes) (image_device (set bytes (word_at bytes p) w))
+  word_stored mark = record {
+    limit = refl;
+    places = word_layout.count;
+    here = ap (λ n. marked (get_or (set bytes (word_at bytes p) w) (mark_at p) 0) (get_or (set bytes (word_at bytes p) w) (4 + n + p) 0)) word_layout.count
+        ∙ (ap (λ x. marked (get_or (set bytes (word_at bytes p) w) (mark_at p) 0) x) (get_or-set_same bytes (word_at bytes p) w 0 (omega arith))
+        ∙ marked_holds (get_or (set bytes (word_at bytes p) w) (mark_at p) 0) w (get_or-set_other bytes (word_at bytes p) (mark_at p) w 0 (λ e. omega arith) ∙ mark) k);
+    others = λ q l ne.
+        ap (λ n. marked (get_or (set bytes (word_at bytes p) w) (mark_at q) 0) (get_or (set bytes (word_at bytes p) w) (4 + n + q) 0)) word_layout.count
+        ∙ (ap (λ x. marked x (get_or (set bytes (word_at bytes p) w) (word_at bytes q) 0)) (get_or-set_other bytes (word_at bytes p) (mark_at q) w 0 (λ e. omega arith))
+        ∙ ap (λ x. marked (get_or bytes (mark_at q) 0) x) (get_or-set_other bytes (word_at bytes p) (word_at bytes q) w 0 (λ e. ne (omega arith))));
+  }
 
   -- the mark, and then the word
   pub filling_stored : Stored p w (image_device bytes) (image_device (filling bytes p w))
@@ -160,12 +178,30 @@ module _ (bytes : List ℕ) where
   count_is m is n (inl h) = is ∙ own_places (is_image bytes) (image_device bytes) (fit_by_place (is_image bytes) (image_device bytes) n h)
   count_is m is n (inr h) = is ∙ own_places (is_image bytes) (image_device bytes) (fit_by_bay (is_image bytes) (image_device bytes) n h)
 
+  module _ (b p w : ℕ) (none : refuses_word b p w (bytes_table bytes) ≡ None) where
+    -- a write stores the word where the mark is 1,
+    pub image_written : get_or bytes (mark_at p) 0 ≡ 1 → KeptPromise (bytes_table bytes) (bytes_table (set bytes (word_at bytes p) w)) (refuses_word b p w) (Written b p w) (Ok tt)
+    image_written mark =
+        let (i, j, k) = bounds (is_image bytes) (image_device bytes) b p w none in
+        let q = own_place (is_image bytes) (image_device bytes) p j in
+        after (set bytes (word_at bytes p) w) (word_layout bytes p w q (long_by_place p j) (below p w j k)) (λ t. KeptPromise (bytes_table bytes) t (refuses_word b p w) (Written b p w) (Ok tt))
+        (one_written (is_image bytes) (image_device bytes) b p w none (image_device (set bytes (word_at bytes p) w))
+        (word_stored bytes p w q (long_by_place p j) (below p w j k) mark) _ (marked_filled (get_or bytes (mark_at p) 0) (get_or bytes (word_at bytes p) 0) mark))
+
+    -- a patch the mark and the word,
+    pub image_patched : KeptPromise (bytes_table bytes) (bytes_table (filling bytes p w)) (refuses_word b p w) (Patched b p w) (Ok tt)
+    image_patched =
+        let (i, j, k) = bounds (is_image bytes) (image_device bytes) b p w none in
+        let q = own_place (is_image bytes) (image_device bytes) p j in
+        after (filling bytes p w) (filling_layout bytes p w q (long_by_place p j) (below p w j k)) (λ t. KeptPromise (bytes_table bytes) t (refuses_word b p w) (Patched b p w) (Ok tt))
+        (one_patched (is_image bytes) (image_device bytes) b p w none (image_device (filling bytes p w)) (filling_stored bytes p w q (long_by_place p j) (below p w j k)))
+
   module _ (p : ℕ) (words : List ℕ) (none : refuses_lay p words (bytes_table bytes) ≡ None) where
     -- the word of a lay is a byte
     pub lay_byte : get_or words 0 0 < byte_limit
     lay_byte = let (j, one, k) = lay_bounds (is_image bytes) (image_device bytes) p words none in below p (get_or words 0 0) j k
 
-    -- a lay sets the mark and the word,
+    -- a lay the same,
     pub image_laid : KeptPromise (bytes_table bytes) (bytes_table (filling bytes p (get_or words 0 0))) (refuses_lay p words) (LayAnswer p words) (Ok 1)
     image_laid =
         let w = get_or words 0 0 in

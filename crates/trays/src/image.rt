@@ -6,13 +6,11 @@ ghost use Rattle.trays.specs.Sections.{TellsSections};
 ghost use Rattle.trays.specs.Image.{counted, count_of, word_at, is_image, laid_out, image_table, InOrder, filling, unmarked, SameMemory};
 
 use crate::misfit::Misfit;
+use crate::tray::LEAST_LIMIT;
 use shelf::{Refusal, Serviceable, Shape, Shelf};
 
 // The limit of an image tray: its words are bytes.
 const BYTE_LIMIT: u32 = 256;
-
-// The limit of one that is unfit.
-const LEAST_LIMIT: u32 = 16;
 
 // The mark of a filled cell; any other mark is a blank one's.
 const FILLED: u8 = 1;

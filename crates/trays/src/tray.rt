@@ -7,8 +7,8 @@ ghost use Rattle.trays.specs.Words.{checked, blank_word, tray_table, InOrder, Sa
 use crate::misfit::Misfit;
 use shelf::{MOST_LIMIT, MOST_PLACES, Refusal, Serviceable, Shape, Shelf};
 
-// The least limit of a tray.
-const LEAST_LIMIT: u32 = 16;
+// The least limit of a tray, and the limit of one that is unfit.
+pub(crate) const LEAST_LIMIT: u32 = 16;
 
 // What a blank slot is stored as.
 pub(crate) const BLANK: u32 = u32::MAX;

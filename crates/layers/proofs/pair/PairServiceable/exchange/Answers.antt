@@ -1,20 +1,14 @@
-use Rattle.std.proofs.Common.{Ok, subst}
 use Rattle.shelf.specs.Calls.{refuses_exchange, Exchanged}
-use Rattle.layers.specs.Pairs.{InHalf}
 use Rattle.layers.proofs.Halves.{on_first, on_second}
 use Rattle.layers.proofs.BayCalls.{exchanges}
 use Rattle.layers.proofs.pair.PairServiceable.exchange.Goals as goal
 
 pub returns-in-First-clause-promised : goal.returns-in-First-clause-promised
 returns-in-First-clause-promised g c =
-    let here = subst (λ h. InHalf (g.A.Shelf.table c.args.self.now.first) (g.B.Shelf.table c.args.self.now.second) c.args.bay (Ok h)) c.in-First.is c.in_ok-half.ensures in
-    on_first refuses_exchange Exchanged exchanges c.exchange.result
-    (g.A.Shelf.table c.args.self.now.first) (g.A.Shelf.table c.exchange.new.self) (g.B.Shelf.table c.args.self.now.second)
-    (g.A.Shelf.sound c.args.self.now.first) (g.A.Shelf.sound c.exchange.new.self) (g.B.Shelf.sound c.args.self.now.second) c.args.bay here c.exchange.ensures
+    on_first g.A.Shelf.table g.A.Shelf.sound g.B.Shelf.table g.B.Shelf.sound refuses_exchange Exchanged exchanges c.args.self.now c.args.bay c.in_ok-half.field-0 c.in_ok-half.ensures
+    c.in-First.is c.exchange.new.self c.exchange.result c.exchange.ensures
 
 pub returns-in-Second-clause-promised : goal.returns-in-Second-clause-promised
 returns-in-Second-clause-promised g c =
-    let here = subst (λ h. InHalf (g.A.Shelf.table c.args.self.now.first) (g.B.Shelf.table c.args.self.now.second) c.args.bay (Ok h)) c.in-Second.is c.in_ok-half.ensures in
-    on_second refuses_exchange Exchanged exchanges c.exchange-in-Second.result
-    (g.A.Shelf.table c.args.self.now.first) (g.B.Shelf.table c.args.self.now.second) (g.B.Shelf.table c.exchange-in-Second.new.self)
-    (g.A.Shelf.sound c.args.self.now.first) (g.B.Shelf.sound c.args.self.now.second) (g.B.Shelf.sound c.exchange-in-Second.new.self) c.args.bay c.in-Second.bay here c.exchange-in-Second.ensures
+    on_second g.A.Shelf.table g.A.Shelf.sound g.B.Shelf.table g.B.Shelf.sound refuses_exchange Exchanged exchanges c.args.self.now c.args.bay c.in_ok-half.field-0 c.in_ok-half.ensures
+    c.in-Second.bay c.in-Second.is c.exchange-in-Second.new.self c.exchange-in-Second.result c.exchange-in-Second.ensures
