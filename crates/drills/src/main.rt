@@ -30,7 +30,8 @@ fn run(rt: &HostRuntime) -> anyhow::Result<()> {
             Err(fault) => script.refuse(rt, fault)?,
         }
     }
-    script.close(rt)
+    println!(rt; "lines {}, refused {}", script.lines, script.refused)?;
+    Ok(())
 }
 
 fn main(rt: HostRuntime) -> anyhow::Result<()> {

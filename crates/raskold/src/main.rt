@@ -17,7 +17,8 @@ fn run(rt: &HostRuntime) -> anyhow::Result<()> {
         let said = archive.take_line(rt.alloc(), &script.line);
         script.tell(rt, said)?;
     }
-    script.close(rt)
+    println!(rt; "lines {}, refused {}", script.lines, script.refused)?;
+    Ok(())
 }
 
 fn main(rt: HostRuntime) -> anyhow::Result<()> {

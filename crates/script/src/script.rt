@@ -1,4 +1,5 @@
-ghost use Rattle.std.specs.Prelude.{◌≡◌};
+ghost use Rattle.std.specs.Prelude.{◌≡◌, OnOk, IfSome};
+ghost use Rattle.std.specs.Io.BufRead.{take_through};
 ghost use Rattle.script.specs.Scripts.{Advances, Tells, Refuses};
 
 use std::alloc::Global;
@@ -8,7 +9,7 @@ use std::{fmt, io};
 // The lines of an input, one by one, and how many of them were read and refused.
 #[derive(Drop)]
 pub struct Script<R> {
-    input: R,
+    pub input: R,
     // The line that was read last.
     pub line: Vec<u8>,
     pub lines: u64,
@@ -30,7 +31,8 @@ impl<R: BufRead> Script<R> {
 
     // Reads the next line. False where there is none.
     pub fn advance(&mut self) -> io::Result<bool>
-        ensures { Advances self.old self.new result }
+        ensures counts { Advances self.old self.new result }
+        ensures line { OnOk result (IfSome (R.remaining self.old.input) (λ xs. self.new.line.items ≡ take_through 10 xs)) }
     {
         self.line.clear();
         if self.input.read_until(b'\n', &mut self.line)? == 0 {
@@ -69,14 +71,6 @@ impl<R: BufRead> Script<R> {
         println!(rt; "line {number}: {text}: {fault}")?;
         Ok(())
     }
-
-    // Prints how many lines there were, and how many of them were refused.
-    pub fn close(&self, rt: &HostRuntime) -> anyhow::Result<()> {
-        let lines = self.lines;
-        let refused = self.refused;
-        println!(rt; "lines {lines}, refused {refused}")?;
-        Ok(())
-    }
 }
 
 #[cfg(test)]
@@ -94,7 +88,6 @@ mod tests {
         assert!(rt; script.advance()?);
         script.tell(&rt, Err::<Option<u8>, &str>("unknown command"))?;
         assert!(rt; !script.advance()?);
-        script.close(&rt)?;
         assert_eq!(rt; script.lines, 2);
         assert_eq!(rt; script.refused, 1);
         Ok(())
