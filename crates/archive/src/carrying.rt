@@ -9,6 +9,7 @@ use crate::whole::Archive;
 use command::{Command, read_command};
 use std::alloc::Global;
 
+// Numbers of a line have 32 bits, and those of a shelf are usize. Rust has no From between them, so they are cast, which loses nothing.
 impl Archive {
     // No archive is described yet.
     pub fn new() -> Archive

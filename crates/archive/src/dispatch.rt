@@ -10,7 +10,7 @@ use plan::Powers;
 use shelf::MOST_PLACES;
 use std::alloc::Global;
 
-// New stripes by the plan of powers, with nothing laid.
+// New stripes by the plan of powers, with nothing laid. Rust has no From of u32 for usize, so the numbers are cast, which loses nothing.
 fn new_stripes<F: Field>(
     heap: Global,
     description: Description,
@@ -28,6 +28,7 @@ fn new_stripes<F: Field>(
     Ok(Stripes::new(heap, plan, places)?)
 }
 
+// An arm for each field: a `dyn` of the stripes would have to be handed out by a function, which the gate refuses.
 impl Contents {
     // A new archive, with nothing laid.
     pub fn described(heap: Global, description: Description) -> Result<Contents, Fault>

@@ -31,6 +31,7 @@ struct Row<'a>(&'a [u32]);
 
 impl fmt::Display for Row<'_> {
     fn fmt<W: fmt::Write>(&self, f: &mut fmt::Formatter<W>) -> fmt::Result {
+        // With a blank before all but the first: std's join allocates, which printing can't.
         for (i, word) in self.0.iter().enumerate() {
             if i > 0 {
                 f.write_str(" ")?;

@@ -57,6 +57,7 @@ impl fmt::Display for Places<'_> {
         if self.0.is_empty() {
             return write!(f, "no places");
         }
+        // With a blank before all but the first: std's join allocates, which printing can't.
         for (i, place) in self.0.iter().enumerate() {
             if i > 0 {
                 write!(f, " ")?;

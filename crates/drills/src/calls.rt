@@ -1,4 +1,5 @@
 // Carries out the calls of a drill's lines.
+// Numbers of a line have 32 bits, and those of a shelf are usize. Rust has no From between them, so they are cast, which loses nothing.
 use crate::answer::Answer;
 use crate::fault::Fault;
 use command::{ShelfCall, read_call};

@@ -25,7 +25,7 @@ struct Memory {
 }
 
 impl Memory {
-    // All places are blank.
+    // All places are blank. Their number is cast, since it was tested to fit.
     fn blank(heap: Global, places: u32) -> Result<Memory, Fault> {
         if !(1..=MOST_PLACES).contains(&places) {
             return Err(Fault::PlacesOutOfRange);
@@ -49,6 +49,7 @@ fn take_lines<R: BufRead, A: Serviceable, B: Serviceable>(
     println!(rt;
         "drill: bays {bays}, places {places}, limit {limit}; bays 0 and 1 are trays, bays 2 and 3 image trays"
     )?;
+    // No index: a reader may never end, and so its loop is bounded.
     for _ in 0..u64::MAX {
         if !script.advance()? {
             break;

@@ -12,6 +12,7 @@ fn horner(a: u32, b: u32, width: u32, polynomial: u32) -> u32
     requires { width < 32 }
 {
     let mut all = 0u32;
+    // No index: the coefficients are the bits of a number.
     for bit in (0..width).rev() {
         all <<= 1;
         if (all >> width) % 2 == 1 {

@@ -36,7 +36,7 @@ impl Field for Count {
     }
 }
 
-// The product of two codes.
+// The product of two codes. A remainder by the order fits 32 bits, so it is cast.
 fn reduced_product(a: u32, b: u32) -> u32
     requires { (a < count.order) × (b < count.order) }
     ensures { result ≡ count.mul a b }
@@ -52,6 +52,7 @@ fn count_inverse(a: u32) -> u32
 {
     let mut rest = a;
     let mut found = 1;
+    // Euclid's steps: no index.
     while rest > 1 {
         found = reduced_product(found, Count::ORDER - Count::ORDER / rest);
         rest = Count::ORDER % rest;

@@ -10,6 +10,7 @@ use crate::arithmetic::Field;
 use crate::tables;
 
 // A field of binary polynomials of `width` coefficients modulo `modulus`, by the powers of x: each code but 0 is one.
+// A code is cast to index a table: Rust has no From of u32 for usize.
 trait Binary {
     // How many codes there are: 2 to the width.
     const CODES: u32;

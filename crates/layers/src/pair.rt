@@ -50,6 +50,7 @@ impl<A: Shelf, B: Shelf> Pair<A, B> {
     }
 }
 
+// A call on one bay is a match in each: a function that takes the call would take two closures, one for each type of shelf.
 impl<A: Shelf, B: Shelf> Shelf for Pair<A, B> {
     ghost table = { pair_table A.Shelf.table B.Shelf.table };
 

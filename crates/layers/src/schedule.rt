@@ -14,6 +14,7 @@ const MOST_EVENTS: usize = 16;
 pub struct Event {
     call: u32,
     bay: usize,
+    // A mark and not an Option: an event that is spent stays in the table, and still counts among its sixteen.
     spent: bool,
 }
 
@@ -116,6 +117,7 @@ impl Schedule {
         ensures kept { (b : ℕ) → b < bays → bit result b ≡ (not (stopped self.now b) && bit bits b) }
     {
         let mut running = 0;
+        // No index: a bay is the number of its bit.
         for bay in 0..bays {
             if !self.stops(bay) && (bits >> bay) % 2 == 1 {
                 running += 1 << bay;

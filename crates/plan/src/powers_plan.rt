@@ -82,6 +82,7 @@ impl<F: Field> Plan for Powers<F> {
         self.check_bays
     }
 
+    // There are 15 data bays at most, so the base is cast.
     fn coefficient(&self, i: usize, j: usize) -> u32 {
         if i < self.check_bays && j < self.data_bays {
             power_of::<F>(j as u32 + 1, i)

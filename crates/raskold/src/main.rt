@@ -10,6 +10,7 @@ fn run(rt: &HostRuntime) -> anyhow::Result<()> {
     let input = BufReader::new(rt.alloc(), rt.stdin())?;
     let mut script = Script::new(rt.alloc(), input);
     let mut archive = Archive::new();
+    // No index: a reader may never end, and so its loop is bounded.
     for _ in 0..u64::MAX {
         if !script.advance()? {
             break;

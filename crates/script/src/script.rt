@@ -29,7 +29,8 @@ impl<R: BufRead> Script<R> {
         }
     }
 
-    // Reads the next line. False where there is none.
+    // Reads the next line. False where there is none: an Option of the line would lend the script, and leave the clauses no state after
+    // the call to speak of.
     pub fn advance(&mut self) -> io::Result<bool>
         ensures counts { Advances self.old self.new result }
         ensures line { OnOk result (IfSome (R.remaining self.old.input) (λ xs. self.new.line.items ≡ take_through 10 xs)) }

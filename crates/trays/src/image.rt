@@ -72,6 +72,7 @@ impl<'a> ImageTray<'a> {
     }
 }
 
+// Each call says what it keeps of the tray: no type can say that of a change. A word is cast where it was tested to be a byte.
 impl<'a> Shelf for ImageTray<'a> {
     ghost table = { image_table };
 

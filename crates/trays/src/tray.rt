@@ -53,6 +53,7 @@ impl<'a> Tray<'a> {
     }
 }
 
+// Each call says what it keeps of the tray: no type can say that of a change.
 impl<'a> Shelf for Tray<'a> {
     ghost table = { tray_table };
 

@@ -61,12 +61,11 @@ returns-clause-bits g c =
     let ws = c.args.words.now in
     let k = cut_by s t _ _ _ c.shape.ensures c.from.ensures c.shape-cut.ensures p ws c.in_ok-check_lay.ensures in
     let low = of_first g.A.Shelf.table g.A.Shelf.sound c.args.self.now.first c.lay.new.self p ws c.shape-cut.result.0 s.bays k.at (Ok c.in_ok-low.low) c.in_ok-low.ensures in
-    let high = of_second g.B.Shelf.table g.B.Shelf.sound c.args.self.now.second c.lay-2.new.self p ws c.shape-cut.result.0 s.bays k.at (Ok c.in_ok-high.high) c.in_ok-high.ensures in
-    (
+    let high = of_second g.B.Shelf.table g.B.Shelf.sound c.args.self.now.second c.lay-2.new.self p ws c.shape-cut.result.0 s.bays k.at (Ok c.in_ok-high.high) c.in_ok-high.ensures in (
       c.in_ok-low.low,
       c.in_ok-high.high,
       lay_bits s (g.A.Shelf.table c.lay.new.self) t (g.B.Shelf.table c.lay-2.new.self) k.fit low.0 high.0 ws p k.none
-    (g.A.Shelf.sound c.args.self.now.first) (g.A.Shelf.sound c.lay.new.self) (g.B.Shelf.sound c.args.self.now.second) (g.B.Shelf.sound c.lay-2.new.self) c.shape-cut.result.0 c.in_ok-low.low c.in_ok-high.high k.at low high,
+          (g.A.Shelf.sound c.args.self.now.first) (g.A.Shelf.sound c.lay.new.self) (g.B.Shelf.sound c.args.self.now.second) (g.B.Shelf.sound c.lay-2.new.self) c.shape-cut.result.0 c.in_ok-low.low c.in_ok-high.high k.at low high,
       low,
       high,
     )
