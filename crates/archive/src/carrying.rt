@@ -44,14 +44,14 @@ impl Archive {
                 let Some(contents) = &mut self.contents else {
                     return Err(Fault::NoArchive);
                 };
-                let stripe = contents.lay(heap, place as usize, &words)?;
+                let stripe = contents.lay(place as usize, &words)?;
                 Ok(Report::Laid { place, stripe })
             }
             Command::Write { bay, place, word } => {
                 let Some(contents) = &mut self.contents else {
                     return Err(Fault::NoArchive);
                 };
-                let rewrite = contents.write(heap, bay as usize, place as usize, word)?;
+                let rewrite = contents.write(bay as usize, place as usize, word)?;
                 Ok(Report::Written {
                     bay,
                     place,

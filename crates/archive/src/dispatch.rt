@@ -42,30 +42,24 @@ impl Contents {
     }
 
     // Lays the words at a place, whatever the field.
-    pub fn lay(&mut self, heap: Global, place: usize, words: &[u32]) -> Result<Stripe, Fault>
+    pub fn lay(&mut self, place: usize, words: &[u32]) -> Result<Stripe, Fault>
         ensures { LaysIn self.old self.new place words.now result }
     {
         match self {
-            Contents::Nibble(stripes) => stripes.lay(heap, place, words),
-            Contents::Byte(stripes) => stripes.lay(heap, place, words),
-            Contents::Count(stripes) => stripes.lay(heap, place, words),
+            Contents::Nibble(stripes) => stripes.lay(place, words),
+            Contents::Byte(stripes) => stripes.lay(place, words),
+            Contents::Count(stripes) => stripes.lay(place, words),
         }
     }
 
     // Writes a word in a data bay at a place, whatever the field.
-    pub fn write(
-        &mut self,
-        heap: Global,
-        bay: usize,
-        place: usize,
-        word: u32,
-    ) -> Result<Rewrite, Fault>
+    pub fn write(&mut self, bay: usize, place: usize, word: u32) -> Result<Rewrite, Fault>
         ensures { WritesIn self.old self.new bay place word result }
     {
         match self {
-            Contents::Nibble(stripes) => stripes.write(heap, bay, place, word),
-            Contents::Byte(stripes) => stripes.write(heap, bay, place, word),
-            Contents::Count(stripes) => stripes.write(heap, bay, place, word),
+            Contents::Nibble(stripes) => stripes.write(bay, place, word),
+            Contents::Byte(stripes) => stripes.write(bay, place, word),
+            Contents::Count(stripes) => stripes.write(bay, place, word),
         }
     }
 }

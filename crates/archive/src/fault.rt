@@ -6,7 +6,8 @@ use shelf::Refusal;
 use std::alloc::AllocError;
 use thiserror::Error;
 
-// Why a line was not carried out. Then nothing was changed.
+// Why a line was not carried out. Then nothing was changed. Each variant prints the number of its own enum of refusals: those of several
+// crates have no trait in common, which would be longer than the line.
 #[derive(Clone, Copy, Debug, Error)]
 pub enum Fault {
     // The line gives no command.
@@ -29,6 +30,7 @@ pub enum Fault {
     Memory,
 }
 
+// By hand: a derived From has no contract, and the contracts above say which fault a `?` makes.
 impl From<AllocError> for Fault {
     ghost from_gives = { λ _ r. r ≡ Memory };
 

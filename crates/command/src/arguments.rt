@@ -1,5 +1,6 @@
 // Reads the tokens after a line's name, where they are numbers. All are read, and only where none is wrong does their number count.
-// The next token is number `first` of its line, which a fault counts from.
+// The next token is number `first` of its line, which a fault counts from. It is a number that each caller writes out: a struct of it and
+// the tokens would be made at each call and taken apart in it.
 ghost use Rattle.command.specs.Arguments.{exactly, one_and_rest, counted};
 ghost use Rattle.command.specs.Cursors.{tokens_left};
 ghost use Rattle.command.specs.Outcome.{Answers};

@@ -49,6 +49,7 @@ impl FieldName {
     }
 }
 
+// By hand: what a derive prints has no contract.
 impl fmt::Display for FieldName {
     ghost output = { λ f. Some (field_name f) };
 
@@ -94,6 +95,7 @@ pub enum Fault {
     Memory,
 }
 
+// By hand, here and below: what a derive makes of an error, or prints, has no contract, and readers promise both.
 impl From<AllocError> for Fault {
     ghost from_gives = { λ _ r. r ≡ Memory };
 

@@ -32,17 +32,15 @@ pub enum Answer {
     Exchanged {
         bay: u32,
     },
-    // The words from the first place on, none where a place is lost, and how many came.
+    // The words from the first place on, none where a place is lost.
     Fetched {
         bay: u32,
         first: u32,
         words: Vec<Option<u32>>,
-        found: usize,
     },
-    // The lost cells of so many places from the first on.
+    // The lost cells of a run of places.
     Surveyed {
-        first: u32,
-        count: u32,
+        run: Run,
         lost: Vec<LostCell>,
     },
     Ended,
@@ -89,9 +87,9 @@ impl fmt::Display for LostCells<'_> {
 
 // The places of a run, of which there are so many from the first on.
 #[derive(Clone, Copy)]
-struct Run {
-    first: u32,
-    count: u32,
+pub struct Run {
+    pub first: u32,
+    pub count: u32,
 }
 
 impl fmt::Display for Run {
@@ -118,23 +116,12 @@ impl fmt::Display for Answer {
                 write!(f, "bay {bay} place {place}: patched {word}")
             }
             Answer::Exchanged { bay } => write!(f, "bay {bay}: exchanged"),
-            Answer::Fetched {
-                bay,
-                first,
-                words,
-                found,
-            } => {
+            Answer::Fetched { bay, first, words } => {
+                let found = words.iter().filter(|word| word.is_some()).count();
                 let places = Places(words);
                 write!(f, "bay {bay} from place {first}: {places}, words {found}")
             }
-            Answer::Surveyed { first, count, lost } => {
-                let run = Run {
-                    first: *first,
-                    count: *count,
-                };
-                let cells = LostCells(lost);
-                write!(f, "{run}: {cells}")
-            }
+            Answer::Surveyed { run, lost } => write!(f, "{run}: {}", LostCells(lost)),
             Answer::Ended => write!(f, "drill ended"),
         }
     }

@@ -1,10 +1,10 @@
 // Carries out the calls of a drill's lines.
 // Numbers of a line have 32 bits, and those of a shelf are usize. Rust has no From between them, so they are cast, which loses nothing.
-use crate::answer::Answer;
+use crate::answer::{Answer, Run};
 use crate::fault::Fault;
 use command::{ShelfCall, read_call};
 use layers::{Drill, Pair};
-use shelf::{LostCell, Serviceable, Shelf, fetch, survey};
+use shelf::{LostCell, Serviceable, Shape, Shelf, fetch, survey};
 use std::alloc::Global;
 
 // The bays of the first half of a drill's shelf.
@@ -58,37 +58,27 @@ fn fetch_run<S: Shelf>(
     first: u32,
     count: u32,
 ) -> Result<Answer, Fault> {
-    let (_, places, _) = shelf.shape();
+    let places = Shape::from(shelf.shape()).places;
     let room = (count as usize).min(places + 1);
     let mut words = vec![in heap; 0u32; room]?;
     let mut marks = vec![in heap; 0u8; room]?;
-    let found = fetch(shelf, bay as usize, first as usize, &mut words, &mut marks)?;
+    fetch(shelf, bay as usize, first as usize, &mut words, &mut marks)?;
     let words = words
         .iter()
         .zip(marks.iter())
         .map(|(word, mark)| if *mark == 1 { Some(*word) } else { None })
         .collect(heap)?;
-    Ok(Answer::Fetched {
-        bay,
-        first,
-        words,
-        found,
-    })
+    Ok(Answer::Fetched { bay, first, words })
 }
 
 // Surveys a run of places. One that is longer than the shelf is refused, so it needs no longer list.
-fn survey_run<S: Shelf>(
-    heap: Global,
-    shelf: &mut S,
-    first: u32,
-    count: u32,
-) -> Result<Answer, Fault> {
-    let (bays, places, _) = shelf.shape();
-    let room = bays * (count as usize).min(places);
+fn survey_run<S: Shelf>(heap: Global, shelf: &mut S, run: Run) -> Result<Answer, Fault> {
+    let Shape { bays, places, .. } = Shape::from(shelf.shape());
+    let room = bays * (run.count as usize).min(places);
     let mut lost = vec![in heap; LostCell { bay: 0, place: 0 }; room]?;
-    let found = survey(shelf, first as usize, count as usize, &mut lost)?;
+    let found = survey(shelf, run.first as usize, run.count as usize, &mut lost)?;
     lost.truncate(found);
-    Ok(Answer::Surveyed { first, count, lost })
+    Ok(Answer::Surveyed { run, lost })
 }
 
 // Carries out a call on the shelf of a drill.
@@ -105,7 +95,7 @@ fn carry_out<A: Serviceable, B: Serviceable>(
         ShelfCall::Patch { bay, place, word } => patch(shelf, bay, place, word),
         ShelfCall::Exchange { bay } => exchange(shelf, bay),
         ShelfCall::Fetch { bay, first, count } => fetch_run(heap, shelf, bay, first, count),
-        ShelfCall::Survey { first, count } => survey_run(heap, shelf, first, count),
+        ShelfCall::Survey { first, count } => survey_run(heap, shelf, Run { first, count }),
         ShelfCall::End => Ok(Answer::Ended),
     }
 }

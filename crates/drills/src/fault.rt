@@ -3,7 +3,8 @@ use shelf::Refusal;
 use std::alloc::AllocError;
 use thiserror::Error;
 
-// Why a line of a drill was not carried out. Then nothing was changed.
+// Why a line of a drill was not carried out. Then nothing was changed. Each variant prints the number of its own enum of refusals, as in
+// the archive.
 #[derive(Debug, Drop, Error)]
 pub enum Fault {
     // The line gives no call.

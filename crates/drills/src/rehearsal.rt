@@ -4,7 +4,7 @@ use crate::calls::take_call;
 use crate::fault::Fault;
 use layers::{Drill, Pair};
 use script::Script;
-use shelf::{Serviceable, Shelf};
+use shelf::{Serviceable, Shape, Shelf};
 use std::alloc::Global;
 use std::io::BufRead;
 use trays::{ImageTray, Tray, blank_image, blank_words};
@@ -45,7 +45,11 @@ fn take_lines<R: BufRead, A: Serviceable, B: Serviceable>(
     script: &mut Script<R>,
     shelf: &mut Pair<Drill<A>, Drill<B>>,
 ) -> anyhow::Result<()> {
-    let (bays, places, limit) = shelf.shape();
+    let Shape {
+        bays,
+        places,
+        limit,
+    } = Shape::from(shelf.shape());
     println!(rt;
         "drill: bays {bays}, places {places}, limit {limit}; bays 0 and 1 are trays, bays 2 and 3 image trays"
     )?;

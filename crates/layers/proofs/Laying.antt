@@ -59,13 +59,13 @@ pub record Cut (s t : Table) (p : ℕ) (ws : List ℕ) (cut : ℕ) : Type 0 wher
   pub within : cut ≤ length ws
 
 -- the tests of the pair's shape, and the shape of the first
-pub cut_by : (s t : Table) (n m : ℕ × ℕ × ℕ) (shape : Shape) → Shaped (paired s t) n → (shape.bays ≡ n.0) × (shape.places ≡ n.1) × (shape.limit ≡ n.2) → Shaped s m → (p : ℕ) (ws : List ℕ) → lay_refusal shape.bays shape.places shape.limit p ws ≡ None → Cut s t p ws m.0
-cut_by s t n m shape is from first p ws e =
+pub cut_by : (s t : Table) (n : ℕ × ℕ × ℕ) (shape : Shape) → Shaped (paired s t) n → (shape.bays ≡ n.0) × (shape.places ≡ n.1) × (shape.limit ≡ n.2) → (cut : ℕ) → cut ≡ s.bays → (p : ℕ) (ws : List ℕ) → lay_refusal shape.bays shape.places shape.limit p ws ≡ None → Cut s t p ws cut
+cut_by s t n shape is from cut at p ws e =
     let none = tested_lay (paired s t) n shape is from p ws e in
     let h = lay_fit (paired s t).bays (paired s t).places (paired s t).limit p ws none in
     let fit = fit_by_place s t p h.room in
     let all = ap (λ (u : Table). u.bays) (fit_table s t fit) in
-    record { none = none; fit = fit; at = first.bays; within = omega (arith, h.count, all, first.bays) }
+    record { none = none; fit = fit; at = at; within = omega (arith, h.count, all, at) }
 
 module _ {S : Type 0} (f : S → Table) (P : S → Type 0) (x y : S) (p : ℕ) (ws : List ℕ) (cut k : ℕ) (at : cut ≡ k) (r : Result ℕ Refusal) where
   -- what the first shelf shows, and the second, of the part of the words that each is lent

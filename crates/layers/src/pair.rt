@@ -41,7 +41,7 @@ impl<A: Shelf, B: Shelf> Pair<A, B> {
         ensures { InHalf (A.Shelf.table self.now.first) (B.Shelf.table self.now.second) bay result }
     {
         Shape::from(self.shape()).check_bay(bay)?;
-        let (cut, _, _) = self.first.shape();
+        let cut = Shape::from(self.first.shape()).bays;
         if bay < cut {
             Ok(Half::First)
         } else {
@@ -50,19 +50,21 @@ impl<A: Shelf, B: Shelf> Pair<A, B> {
     }
 }
 
-// A call on one bay is a match in each: a function that takes the call would take two closures, one for each type of shelf.
+// A call on one bay is a match in each. A function that takes the call as a closure over `&mut dyn Shelf` is refused: "cannot state an
+// item with such a type in a bound yet".
 impl<A: Shelf, B: Shelf> Shelf for Pair<A, B> {
     ghost table = { pair_table A.Shelf.table B.Shelf.table };
 
     ghost sound = { Both A.Shelf.sound B.Shelf.sound };
 
     fn shape(&self) -> (usize, usize, u32) {
-        let (bays, places, limit) = self.first.shape();
-        let (more, second_places, second_limit) = self.second.shape();
-        if bays + more <= MOST_BAYS && places == second_places && limit == second_limit {
-            (bays + more, places, limit)
+        let first = Shape::from(self.first.shape());
+        let second = Shape::from(self.second.shape());
+        let bays = first.bays + second.bays;
+        if bays <= MOST_BAYS && first.places == second.places && first.limit == second.limit {
+            (bays, first.places, first.limit)
         } else {
-            (0, 0, limit)
+            (0, 0, first.limit)
         }
     }
 
@@ -91,7 +93,7 @@ impl<A: Shelf, B: Shelf> Shelf for Pair<A, B> {
         ensures bits { Joined A.Shelf.table A.Shelf.sound B.Shelf.table B.Shelf.sound place words.now self.old self.new result }
     {
         Shape::from(self.shape()).check_lay(place, words)?;
-        let (cut, _, _) = self.first.shape();
+        let cut = Shape::from(self.first.shape()).bays;
         let low = self.first.lay(place, &words[..cut])?;
         let high = self.second.lay(place, &words[cut..])?;
         Ok(high << cut | low)

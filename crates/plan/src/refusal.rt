@@ -28,6 +28,7 @@ impl Refusal {
     }
 }
 
+// By hand: what a derive prints has no contract, and the words of a refusal are promised.
 impl fmt::Display for Refusal {
     ghost output = { λ e. Some (wording e) };
 

@@ -1,12 +1,13 @@
 ghost use Rattle.std.specs.Prelude.{◌≡◌, OnOk, IfSome};
-ghost use Rattle.std.specs.Io.BufRead.{take_through};
+ghost use Rattle.std.specs.Io.BufRead.{take_through, DropsThrough};
 ghost use Rattle.script.specs.Scripts.{Advances, Tells, Refuses};
 
 use std::alloc::Global;
 use std::io::BufRead;
 use std::{fmt, io};
 
-// The lines of an input, one by one, and how many of them were read and refused.
+// The lines of an input, one by one, and how many of them were read and refused. Its fields are public: clauses name them, and nothing
+// rests on them.
 #[derive(Drop)]
 pub struct Script<R> {
     pub input: R,
@@ -34,6 +35,7 @@ impl<R: BufRead> Script<R> {
     pub fn advance(&mut self) -> io::Result<bool>
         ensures counts { Advances self.old self.new result }
         ensures line { OnOk result (IfSome (R.remaining self.old.input) (λ xs. self.new.line.items ≡ take_through 10 xs)) }
+        ensures rest { OnOk result (DropsThrough (R.remaining self.old.input) (R.remaining self.new.input) 10) }
     {
         self.line.clear();
         if self.input.read_until(b'\n', &mut self.line)? == 0 {

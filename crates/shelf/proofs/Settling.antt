@@ -62,7 +62,7 @@ module _ (s : Table) (n : ℕ × ℕ × ℕ) (shape : Shape) (is : Shaped s n) (
   pub own_places : shape.places ≡ s.places
   own_places = from.1 ∙ is.places
 
-  own_limit : shape.limit ≡ s.limit
+  pub own_limit : shape.limit ≡ s.limit
   own_limit = from.2 ∙ is.limit
 
   -- put into the test one by one

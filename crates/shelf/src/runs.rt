@@ -7,9 +7,9 @@ use crate::refusal::Refusal;
 use crate::shape::Shape;
 use crate::traits::Shelf;
 
-// The two buffers are a rule of the project: a caller lends words and marks.
 // Reads a run of places of one bay, as long as the two buffers. Where a word comes it goes into its slot and its mark is 1; a lost
 // place has mark 0, and its slot is untouched. Answers how many marks are 1.
+// The two buffers are a rule of the project: a caller lends words and marks.
 pub fn fetch<S: Shelf>(
     shelf: &mut S,
     bay: usize,
@@ -53,8 +53,8 @@ pub fn survey<S: Shelf>(
     let shape = Shape::from(shelf.shape());
     shape.check_run(first, count)?;
     let mut found = 0;
-    // By the number of the cell: two loops, one in the other, would need a second function that is lent the shelf, the list and the
-    // count; and the list is filled by index for the reason that the buffers of a fetch are.
+    // By the number of the cell: one loop a function is a rule of the project, and a second function would be lent the shelf, the list and
+    // the count. The list is filled by index for the reason that the buffers of a fetch are.
     for k in 0..count * shape.bays {
         let (bay, place) = (k % shape.bays, first + k / shape.bays);
         if let Err(_) = shelf.read(bay, place) {

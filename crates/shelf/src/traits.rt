@@ -8,6 +8,7 @@ use crate::refusal::Refusal;
 // A shelf: cells of words, one for each bay and place. A bay is a device, which runs or is stopped; a place is a position on each
 // device; a cell is blank, or holds a word below the limit. During any call that is not refused, bays may stop and filled cells may
 // go blank.
+// That each call takes a bay and a place, and `shape` answers three numbers, is a rule of the project.
 pub trait Shelf {
     // The cells, and which bays run.
     ghost table: { Self → Table };

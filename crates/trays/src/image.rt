@@ -128,6 +128,7 @@ impl<'a> Shelf for ImageTray<'a> {
     }
 }
 
+// The same of these two.
 impl<'a> Serviceable for ImageTray<'a> {
     fn patch(&mut self, bay: usize, place: usize, word: u32) -> Result<(), Refusal>
         ensures promised { Outcome image_table InOrder self.old self.new (refuses_word bay place word) (Patched bay place word) result }

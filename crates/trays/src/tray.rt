@@ -100,6 +100,7 @@ impl<'a> Shelf for Tray<'a> {
     }
 }
 
+// The same of these two.
 impl<'a> Serviceable for Tray<'a> {
     fn patch(&mut self, bay: usize, place: usize, word: u32) -> Result<(), Refusal>
         ensures promised { Outcome tray_table InOrder self.old self.new (refuses_word bay place word) (Patched bay place word) result }

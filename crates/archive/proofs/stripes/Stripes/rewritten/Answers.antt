@@ -3,14 +3,14 @@ use Rattle.std.specs.List.{each_same}
 use Rattle.std.proofs.lemmas.List.{set_past}
 use Rattle.plan.specs.Rows.{codes, all_moved}
 use Rattle.archive.proofs.Held.{both-held}
-use Rattle.archive.proofs.stripe.Stripe.rewritten.Goals as goal
-use Rattle.archive.proofs.stripe.Stripe.rewritten.Goals.{then-bay-len, else-bay-len}
+use Rattle.archive.proofs.stripes.Stripes.rewritten.Goals as goal
+use Rattle.archive.proofs.stripes.Stripes.rewritten.Goals.{then-bay-len, else-bay-len}
 
 pub returns : goal.returns
 returns g c =
     let k = g.P.F.Field.arithmetic in
-    let x = g.P.Plan.coefficients c.args.plan.now in
-    let ws = vec_items c.args.self.now.words in
+    let x = g.P.Plan.coefficients c.args.self.now.plan in
+    let ws = vec_items c.args.stripe.now.words in
     let bay = c.args.bay in
     let word = c.args.word in
     let copy : vec_items c.in_ok-words.words ≡ ws = each_same _ _ c.in_ok-words.ensures.cases.0 in

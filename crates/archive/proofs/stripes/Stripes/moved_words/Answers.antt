@@ -6,7 +6,7 @@ use Rattle.std.proofs.lemmas.Iterator.Consumers.{YieldsList-at, YieldsList-from_
 use Rattle.field.specs.Arithmetic.{Arithmetic}
 use Rattle.plan.specs.Coefficients.{Coefficients}
 use Rattle.plan.specs.Rows.{codes, moved, all_moved}
-use Rattle.archive.proofs.stripe.moved_words.Goals as goal
+use Rattle.archive.proofs.stripes.Stripes.moved_words.Goals as goal
 
 -- each check with its number, moved
 moved_each : (k : Arithmetic) (x : Coefficients) (j old new i : ℕ) (cs : List ℕ) → map (λ (p : ℕ × ℕ). moved k x p.0 j (p.1 % k.order) old new) (enumerate_from i cs) ≡ all_moved k x i j old new (codes k cs)
@@ -18,7 +18,7 @@ moved_each k x j old new i (c ∷ cs) =
 pub returns : goal.returns
 returns g c =
     let k = g.P.F.Field.arithmetic in
-    let x = g.P.Plan.coefficients c.args.plan.now in
+    let x = g.P.Plan.coefficients c.args.self.now.plan in
     let old = c.args.old % k.order in
     let new = c.args.new % k.order in
     IfOk-weaker c.collect.result _ _ (λ w e. e ∙ moved_each k x c.args.bay old new 0 c.args.checks.now)
