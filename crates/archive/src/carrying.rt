@@ -41,16 +41,12 @@ impl Archive {
                 Ok(Report::Described(description))
             }
             Command::Lay { place, words } => {
-                let Some(contents) = &mut self.contents else {
-                    return Err(Fault::NoArchive);
-                };
+                let contents = self.contents.as_mut().ok_or(Fault::NoArchive)?;
                 let stripe = contents.lay(place as usize, &words)?;
                 Ok(Report::Laid { place, stripe })
             }
             Command::Write { bay, place, word } => {
-                let Some(contents) = &mut self.contents else {
-                    return Err(Fault::NoArchive);
-                };
+                let contents = self.contents.as_mut().ok_or(Fault::NoArchive)?;
                 let rewrite = contents.write(bay as usize, place as usize, word)?;
                 Ok(Report::Written {
                     bay,

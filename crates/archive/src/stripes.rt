@@ -118,9 +118,7 @@ impl<P: Plan> Stripes<P> {
         ensures writes { Writes P.F.Field.arithmetic (P.Plan.coefficients self.old.plan) self.old.places.items self.new.places.items bay place word result }
     {
         self.shape().check_word(bay, place, word)?;
-        let Some(stripe) = &self.places[place] else {
-            return Err(Fault::Refused(Refusal::Lost));
-        };
+        let stripe = self.places[place].as_ref().ok_or(Refusal::Lost)?;
         let next = self.rewritten(stripe, bay, word)?;
         let rewrite = self.shown(bay, stripe, &next)?;
         self.places[place] = Some(next);

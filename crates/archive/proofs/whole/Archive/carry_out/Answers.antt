@@ -1,4 +1,4 @@
-use Rattle.std.proofs.Common.{Some, Option, sym, subst, ap}
+use Rattle.std.proofs.Common.{◌≡◌, Some, Option, sym, subst, ap, rules}
 use mathlib.Core.List.{is_set}
 use mathlib.Core.Logic.{∥∥₁_map, ∥∥₁_elim}
 use native.Mathlib.Nat.{ℕ_set}
@@ -15,16 +15,19 @@ invariant_of-self c =
 
 pub invariant_of-self-in-Lay : goal.invariant_of-self-in-Lay
 invariant_of-self-in-Lay c =
-    let coded = subst (λ (o : Option Contents). ∥ AllCoded (kept o) ∥₁) c.in-Some.is c.args.self.now.coded in
-    record { coded = ∥∥₁_map coded (lay_keeps (Some (kept_in c.in-Some.contents)) (Some (kept_in c.lay.new.self)) c.in-Lay.place _ c.lay.result c.lay.ensures) }
+    let is : c.args.self.now.contents ≡ Some c.in_ok-contents-in-Lay.contents.now = search rules in
+    let coded = subst (λ (o : Option Contents). ∥ AllCoded (kept o) ∥₁) is c.args.self.now.coded in
+    record { coded = ∥∥₁_map coded (lay_keeps (Some (kept_in c.in_ok-contents-in-Lay.contents.now)) (Some (kept_in c.lay.new.self)) c.in-Lay.place _ c.lay.result c.lay.ensures) }
 
 pub invariant_of-self-in-Write : goal.invariant_of-self-in-Write
 invariant_of-self-in-Write c =
-    let coded = subst (λ (o : Option Contents). ∥ AllCoded (kept o) ∥₁) c.in-Some-contents.is c.args.self.now.coded in
-    record { coded = ∥∥₁_map coded (write_keeps (Some (kept_in c.in-Some-contents.contents)) (Some (kept_in c.write.new.self)) c.in-Write.bay c.in-Write.place c.in-Write.word c.write.result c.write.ensures) }
+    let is : c.args.self.now.contents ≡ Some c.in_ok-contents-in-Write.contents.now = search rules in
+    let coded = subst (λ (o : Option Contents). ∥ AllCoded (kept o) ∥₁) is c.args.self.now.coded in
+    record { coded = ∥∥₁_map coded (write_keeps (Some (kept_in c.in_ok-contents-in-Write.contents.now)) (Some (kept_in c.write.new.self)) c.in-Write.bay c.in-Write.place c.in-Write.word c.write.result c.write.ensures) }
 
 pub returns-in_ok-rewrite-in-Write-clause-afresh : goal.returns-in_ok-rewrite-in-Write-clause-afresh
 returns-in_ok-rewrite-in-Write-clause-afresh c =
-    let coded = subst (λ (o : Option Contents). ∥ AllCoded (kept o) ∥₁) c.in-Some-contents.is c.args.self.now.coded in
+    let is : c.args.self.now.contents ≡ Some c.in_ok-contents-in-Write.contents.now = search rules in
+    let coded = subst (λ (o : Option Contents). ∥ AllCoded (kept o) ∥₁) is c.args.self.now.coded in
     ∥∥₁_elim coded (is_set ℕ_set _ _)
-    (λ coded. afresh_in (Some (kept_in c.in-Some-contents.contents)) c.in-Write.bay c.in-Write.place c.in-Write.word coded (shown c.in_ok-rewrite-in-Write.rewrite) c.in_ok-rewrite-in-Write.ensures.1)
+    (λ coded. afresh_in (Some (kept_in c.in_ok-contents-in-Write.contents.now)) c.in-Write.bay c.in-Write.place c.in-Write.word coded (shown c.in_ok-rewrite-in-Write.rewrite) c.in_ok-rewrite-in-Write.ensures.1)
