@@ -6,6 +6,13 @@ use Rattle.script.specs.declared.script.Script.{Script}
 abbrev pub most : ℕ
 most = 18446744073709551615
 
+-- a script of which nothing is read: its input is as it was given, and no line is held or counted
+pub record New {R : Type 0} (given : R) (s : Script R) : Type 0 where
+  pub input : s.input ≡ given
+  pub line : s.line.items ≡ []
+  pub lines : s.lines ≡ 0
+  pub refused : s.refused ≡ 0
+
 -- one more, up to the most that is counted
 abbrev pub one_more : ℕ → ℕ
 one_more n = cond (nat_lt n most) (n + 1) n

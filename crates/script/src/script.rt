@@ -1,6 +1,6 @@
 ghost use Rattle.std.specs.Prelude.{◌≡◌, OnOk, IfSome};
 ghost use Rattle.std.specs.Io.BufRead.{take_through, DropsThrough};
-ghost use Rattle.script.specs.Scripts.{Advances, Tells, Refuses};
+ghost use Rattle.script.specs.Scripts.{New, Advances, Tells, Refuses};
 
 use std::alloc::Global;
 use std::io::BufRead;
@@ -20,7 +20,7 @@ pub struct Script<R> {
 impl<R: BufRead> Script<R> {
     // Nothing is read yet.
     pub fn new(heap: Global, input: R) -> Script<R>
-        ensures { (result.lines ≡ 0) × (result.refused ≡ 0) }
+        ensures { New input result }
     {
         Script {
             input,
