@@ -1,7 +1,14 @@
 // Reads a script from standard input, a command to a line, and prints the account.
 #![tactic(auto)]
 
+mod answer;
+mod calls;
+mod fault;
+mod rehearsal;
+
+use crate::rehearsal::rehearse;
 use archive::Archive;
+use command::read_drill;
 use script::Script;
 use std::io::BufReader;
 
@@ -15,8 +22,14 @@ fn run(rt: &HostRuntime) -> anyhow::Result<()> {
         if !script.advance()? {
             break;
         }
-        let said = archive.take_line(rt.alloc(), &script.line);
-        script.tell(rt, said)?;
+        match read_drill(rt.alloc(), &script.line) {
+            Ok(Some(places)) => rehearse(rt, &mut script, places)?,
+            Ok(None) => {
+                let said = archive.take_line(rt.alloc(), &script.line);
+                script.tell(rt, said)?;
+            }
+            Err(fault) => script.refuse(rt, fault)?,
+        }
     }
     println!(rt; "lines {}, refused {}", script.lines, script.refused)?;
     Ok(())
