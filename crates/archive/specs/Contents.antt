@@ -29,8 +29,8 @@ pub record Kept : Type 0 where
 abbrev pub kept_by : {F : Type 0} → FieldName → Stripes (Powers F) → Kept
 kept_by f s = record {
   field = f;
-  data_bays = s.plan.data_bays;
-  check_bays = s.plan.check_bays;
+  data_bays = s.plan.bays.data_bays;
+  check_bays = s.plan.bays.check_bays;
   places = held_at (vec_items s.places);
 }
 
@@ -101,7 +101,7 @@ Made d (Err e) = (description_fault d ≡ Some e) ⊎ (e ≡ Memory)
 abbrev pub MadeStripes : {F : Type 0} → Description → Result (Stripes (Powers F)) Fault → Type 0
 MadeStripes d (Ok s) =
     (description_fault d ≡ None)
-    × (s.plan.data_bays ≡ d.data_bays) × (s.plan.check_bays ≡ d.check_bays) × (held_at (vec_items s.places) ≡ replicate d.places None)
+    × (s.plan.bays.data_bays ≡ d.data_bays) × (s.plan.bays.check_bays ≡ d.check_bays) × (held_at (vec_items s.places) ≡ replicate d.places None)
 MadeStripes d (Err e) = (description_fault d ≡ Some e) ⊎ (e ≡ Memory)
 
 -- What the calls promise of the contents before and after them.

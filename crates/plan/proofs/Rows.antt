@@ -43,7 +43,7 @@ check_at x i j d = row_at x (x.n + i) j d ∙ entry_check x i j
 
 module _ (k : Arithmetic) (l : Lawful k) (x : Coefficients) (h : Fitting k x) where
   -- zero, one or a coefficient
-  entry_code : (b j : ℕ) → entry x b j < k.order
+  pub entry_code : (b j : ℕ) → entry x b j < k.order
   entry_code b j = elim (cases_lt b x.n) [
     | inl d ↦
         subst (λ (y : ℕ). y < k.order) (sym (entry_data x b j d))

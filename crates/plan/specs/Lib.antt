@@ -2,5 +2,8 @@ pub mod Bounds
 pub mod Coefficients
 pub mod Rows
 pub mod Powers
+pub mod Groups
+pub mod Written
 pub mod Refusals
 pub mod Powering
+pub mod Fits

@@ -1,7 +1,8 @@
 -- The row of each bay, and what a row gives on a data vector.
-use Rattle.std.specs.Prelude.{◌≡◌, ℕ, suc, ◌+◌, ◌-◌, ◌%◌, ◌<◌, cond, List, [], ◌∷◌, map, length, ◌==◌, nat_lt, slice_index, slice_set}
+use Rattle.std.specs.Prelude.{◌≡◌, ℕ, suc, ◌+◌, ◌-◌, ◌%◌, ◌<◌, Bool, true, cond, List, [], ◌∷◌, map, length, ◌==◌, nat_lt, slice_index, slice_set}
 use Rattle.std.specs.List.{range_with_len}
 use Rattle.field.specs.Arithmetic.{Arithmetic}
+use Rattle.plan.specs.Bounds.{most_data}
 use Rattle.plan.specs.Coefficients.{Coefficients}
 
 -- column j of the row of bay b: one in its own column for a data bay, the coefficient for a check bay
@@ -11,6 +12,10 @@ entry x b j = cond (nat_lt b x.n) (cond (b == j) 1 0) (x.f (b - x.n) j)
 unfoldable pub row : Coefficients → ℕ → List ℕ
 unfolding entry
 row x b = map (entry x b) (range_with_len 0 x.n)
+
+-- the row of a bay with zeros after the last data bay, up to the most
+abbrev pub whole_row : Coefficients → ℕ → List ℕ
+whole_row x b = map (entry x b) (range_with_len 0 most_data)
 
 -- the field sum of the products, column by column; it stops at the shorter list
 unfoldable pub dot : Arithmetic → List ℕ → List ℕ → ℕ
@@ -22,6 +27,11 @@ dot k (c ∷ cs) (v ∷ vs) = k.add (k.mul c v) (dot k cs vs)
 pub record Vector (k : Arithmetic) (n : ℕ) (v : List ℕ) : Type 0 where
   pub long : length v ≡ n
   pub below : (j : ℕ) → j < n → slice_index v j < k.order
+
+-- A set of bays tells a row: every data vector on which all rows of the set give zero gives zero on that row too.
+abbrev pub Tells : Arithmetic → Coefficients → (ℕ → Bool) → ℕ → Type 0
+Tells k x set r =
+    (v : List ℕ) → Vector k x.n v → ((b : ℕ) → b < x.n + x.m → set b ≡ true → dot k (row x b) v ≡ 0) → dot k (row x r) v ≡ 0
 
 -- the codes that the words count as
 abbrev pub codes : Arithmetic → List ℕ → List ℕ

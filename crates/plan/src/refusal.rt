@@ -6,8 +6,10 @@ use std::fmt;
 // Why a plan is not made. Each refusal has a number.
 #[derive(Clone, Copy, PartialEq, Eq, Debug)]
 pub enum Refusal {
-    // There are not 1 to 15 data bays and 1 to 8 check bays.
+    // There are not 1 to 15 data bays and 1 to 8 check bays, or more check bays than data bays in a plan of groups.
     BaysOutOfRange,
+    // The table of a written plan has not 15 codes for each check bay.
+    TableLength,
 }
 
 impl Refusal {
@@ -16,6 +18,7 @@ impl Refusal {
     {
         match self {
             Refusal::BaysOutOfRange => 14,
+            Refusal::TableLength => 15,
         }
     }
 
@@ -23,7 +26,10 @@ impl Refusal {
         ensures { result.now ≡ wording self }
     {
         match self {
-            Refusal::BaysOutOfRange => "a plan has 1 to 15 data bays and 1 to 8 check bays",
+            Refusal::BaysOutOfRange => {
+                "a plan has 1 to 15 data bays and 1 to 8 check bays, and one of groups no more check bays than data bays"
+            }
+            Refusal::TableLength => "a written plan has a table of 15 codes for each check bay",
         }
     }
 }
