@@ -1,15 +1,15 @@
 -- A lay on a pair: each of the two lays its part of the words, and their bits are joined.
-use Rattle.std.proofs.Common.{◌≡◌, ℕ, ◌+◌, ◌-◌, ◌*◌, ◌/◌, ◌%◌, ◌^◌, ◌<◌, ◌≤◌, true, false, ◌||◌, eqb, leb, List, [], ◌∷◌, ◌++◌, length, get_or, take, drop, None, Ok, Err, Result, sym, refl, ap, ◌∙◌, subst, ⊎_elim, mul_assoc, arith}
-use native.Mathlib.Nat.{mul-add-div_right, mul-add-mod_self_right}
+use Rattle.std.proofs.Common.{◌≡◌, ℕ, ◌+◌, ◌-◌, ◌*◌, ◌%◌, ◌^◌, ◌<◌, ◌≤◌, true, false, ◌||◌, leb, List, [], ◌∷◌, ◌++◌, length, get_or, take, drop, None, Ok, Err, Result, sym, refl, ap, ◌∙◌, subst, ⊎_elim, arith}
 use lib.Bits.{bit_or}
 use Rattle.std.proofs.lemmas.Bool.{cases_lt, or_parts}
 use Rattle.std.proofs.lemmas.List.{take-append-drop, take_rest, length-take-le, length-drop, get_or-take, get_or-drop}
-use Rattle.std.proofs.lemmas.Nat.{pow_pos, pow-add, shl_whole, or_shifted, shr-shr, shr_high, mul-add-lt}
+use Rattle.std.proofs.lemmas.Nat.{pow-add, shl_whole, or_shifted, mul-add-lt}
 use Rattle.shelf.specs.declared.refusal.Refusal.{Refusal}
 use Rattle.shelf.specs.declared.shape.Shape.{Shape}
 use Rattle.shelf.specs.Refusals.{too_large, lay_refusal}
 use Rattle.shelf.specs.Table.{Table, Cell, Shaped, SameShape, Decayed, Kept}
-use Rattle.shelf.specs.Calls.{Outcome, Settled, refuses_lay, LayAnswer, Laid, Set, ThisPlace, bit}
+use Rattle.shelf.specs.Calls.{Outcome, Settled, refuses_lay, LayAnswer, Laid, Set, ThisPlace}
+use Rattle.shelf.proofs.Gathering.{bit_low, bit_high}
 use Rattle.shelf.proofs.Settling.{lay_there, tested_lay, done, when_done}
 use Rattle.shelf.proofs.Words.{Fit, lay_fit}
 use Rattle.layers.specs.Pairs.{fits, paired}
@@ -20,24 +20,6 @@ use Rattle.layers.proofs.Beside.{fit_table, fit_by_place, fits_few, fits_places,
 -- shifted by k and joined, two numbers are their sum, since the lower has no bit from k on
 pub joined : (high k low m : ℕ) → low < 2 ^ k → high < 2 ^ m → k + m ≤ 32 → bit_or ((high * 2 ^ k) % 4294967296) low ≡ high * 2 ^ k + low
 joined high k low m h i j = ap (λ n. bit_or n low) (shl_whole high m k 32 i (omega arith)) ∙ or_shifted high k low h
-
--- factors in another order
-regroup : (h x y : ℕ) → h * (x * (2 * y)) ≡ h * x * 2 * y
-regroup h x y = simp mul_assoc
-
--- the lower bits are the lower number's: the higher one is even after division by 2 ^ b
-pub bit_low : (high k low b : ℕ) → b < k → bit (high * 2 ^ k + low) b ≡ bit low b
-bit_low high k low b h =
-    let e : k ≡ (k - b - 1) + (1 + b) = omega arith in
-    let f : high * 2 ^ k ≡ high * 2 ^ (k - b - 1) * 2 * 2 ^ b = ap (λ n. high * 2 ^ n) e ∙ (ap (λ n. high * n) (pow-add 2 (k - b - 1) (1 + b) ∙ ap (λ n. 2 ^ (k - b - 1) * n) (pow-add 2 1 b)) ∙ regroup high (2 ^ (k - b - 1)) (2 ^ b)) in
-    ap (λ n. eqb (n % 2) 1) (ap (λ n. (n + low) / 2 ^ b) f ∙ mul-add-div_right {m = 2 ^ b} (pow_pos b) (high * 2 ^ (k - b - 1) * 2) low)
-    ∙ ap (λ n. eqb n 1) (mul-add-mod_self_right (high * 2 ^ (k - b - 1)) 2 (low / 2 ^ b))
-
--- the higher bits are the higher number's: division by 2 ^ k leaves it
-pub bit_high : (high k low b : ℕ) → low < 2 ^ k → k ≤ b → bit (high * 2 ^ k + low) b ≡ bit high (b - k)
-bit_high high k low b h i =
-    let e : b ≡ k + (b - k) = omega arith in
-    ap (λ n. eqb (n % 2) 1) (ap (λ n. (high * 2 ^ k + low) / 2 ^ n) e ∙ (sym (shr-shr (high * 2 ^ k + low) k (b - k)) ∙ ap (λ n. n / 2 ^ (b - k)) (shr_high high k low h)))
 
 -- the joined number has as many bits as the two together
 pub joined_below : (high k low m : ℕ) → low < 2 ^ k → high < 2 ^ m → high * 2 ^ k + low < 2 ^ (k + m)
