@@ -1,0 +1,5 @@
+use Rattle.linear.proofs.Steps.{Progress}
+use Rattle.linear.proofs.elimination.eliminate.Given as goal
+
+abbrev pub invariant-loop-column : goal.invariant-loop-column
+invariant-loop-column g l = Progress g.F.Field.arithmetic l.fn.equations.items l.column l.remaining.items l.pivots.items

@@ -1,0 +1,3 @@
+pub mod Equations
+pub mod Elimination
+pub mod Sets
