@@ -5,17 +5,19 @@ use Rattle.plan.specs.Coefficients.{Coefficients, Fitting}
 use Rattle.plan.specs.Powers.{powers}
 use Rattle.plan.specs.Refusals.{bays_refusal}
 use Rattle.plan.specs.declared.powers_plan.Powers.{Powers}
-use Rattle.plan.specs.declared.refusal.Refusal.{Refusal}
+use Rattle.plan.specs.declared.refusal.Refusal as plan
+use Rattle.shelf.specs.declared.refusal.Refusal.{Refusal}
 use Rattle.command.specs.declared.command.Description.{Description}
 use Rattle.command.specs.declared.command.FieldName.{FieldName}
 use Rattle.command.specs.declared.command.FieldName.TheVariants as name
 use Rattle.archive.specs.Fields.{arithmetic_of}
 use Rattle.archive.specs.Outcome.{Outcome, refused, Carried}
-use Rattle.archive.specs.Stripes.{Held, Shown, held, shown, held_at, laying, writing, Sound}
+use Rattle.archive.specs.Stripes.{Held, Shown, held, shown, held_at, laying, writing, Loses, loss_refusal, Sound}
 use Rattle.archive.specs.declared.contents.Contents.{Contents}
 use Rattle.archive.specs.declared.contents.Contents.TheVariants.{Nibble, Byte, Count}
 use Rattle.archive.specs.declared.fault.Fault.{Fault}
-use Rattle.archive.specs.declared.fault.Fault.TheVariants.{NoArchive, Plan, PlacesOutOfRange, Memory}
+use Rattle.archive.specs.declared.fault.Fault.TheVariants.{NoArchive, Plan, PlacesOutOfRange, Refused, Memory}
+use Rattle.archive.specs.declared.loss.Loss.{Loss}
 use Rattle.archive.specs.declared.stripe.Stripe.{Stripe}
 use Rattle.archive.specs.declared.stripe.Rewrite.{Rewrite}
 use Rattle.archive.specs.declared.stripes.Stripes.{Stripes}
@@ -63,12 +65,21 @@ abbrev pub writing_in : Option Kept → ℕ → ℕ → ℕ → Outcome (Option 
 writing_in None bay place word = refused None NoArchive
 writing_in (Some v) bay place word = within v (writing (arithmetic_of v.field) (plan_of v) v.places bay place word)
 
+-- what is told of lost bays changes nothing: refused where there is no archive
+abbrev pub losing_if : Option Kept → List ℕ → Option Refusal → Outcome (Option Kept) (List ℕ)
+losing_if s lost (Some e) = refused s (Refused e)
+losing_if s lost None = record { after = s; answer = Ok lost }
+
+abbrev pub losing_in : Option Kept → List ℕ → Outcome (Option Kept) (List ℕ)
+losing_in None lost = refused None NoArchive
+losing_in (Some v) lost = losing_if (Some v) lost (loss_refusal (plan_of v) lost)
+
 -- 1 to 65,536 places
 abbrev pub enough_places : ℕ → Bool
 enough_places places = nat_le 1 places && nat_le places 65536
 
 -- why an archive is not described: its plan is refused, then its number of places
-abbrev pub places_fault : ℕ → Option Refusal → Option Fault
+abbrev pub places_fault : ℕ → Option plan.Refusal → Option Fault
 places_fault places (Some e) = Some (Plan e)
 places_fault places None = cond (enough_places places) None (Some PlacesOutOfRange)
 
@@ -110,3 +121,6 @@ LaysIn before after place words r = Carried held (Some (kept_in before)) (Some (
 
 abbrev pub WritesIn : Contents → Contents → ℕ → ℕ → ℕ → Result Rewrite Fault → Type 0
 WritesIn before after bay place word r = Carried shown (Some (kept_in before)) (Some (kept_in after)) (writing_in (Some (kept_in before)) bay place word) r
+
+abbrev pub LosesIn : Contents → List ℕ → Result Loss Fault → Type 0
+LosesIn c lost r = Loses (arithmetic_of (kept_in c).field) (plan_of (kept_in c)) lost r

@@ -1,15 +1,18 @@
 -- What is held at a place, and when its checks are those of its words.
-use Rattle.std.specs.Prelude.{◌≡◌, ℕ, ◌%◌, List, map, length, Some, None, Ok, vec_items, Option, Result, slice_index, slice_index_or, slice_set}
+use Rattle.std.specs.Prelude.{◌≡◌, ℕ, ◌+◌, ◌%◌, List, [], ◌∷◌, map, length, Some, None, Ok, Err, vec_items, Option, Result, slice_index, slice_index_or, slice_set, nat_le}
+use Rattle.std.specs.List.{list_any}
 use Rattle.std.specs.Option.{option_map}
 use Rattle.field.specs.Arithmetic.{Arithmetic}
 use Rattle.plan.specs.Coefficients.{Coefficients}
 use Rattle.plan.specs.Rows.{Vector, codes, checks_on, all_moved}
-use Rattle.shelf.specs.Refusals.{word_refusal, lay_refusal}
+use Rattle.shelf.specs.Refusals.{first_of, word_refusal, lay_refusal}
 use Rattle.shelf.specs.declared.refusal.Refusal.{Refusal}
-use Rattle.shelf.specs.declared.refusal.Refusal.TheVariants.{Lost}
+use Rattle.shelf.specs.declared.refusal.Refusal.TheVariants.{NoSuchBay, Lost}
+use Rattle.linear.specs.Sets.{left, TellsJust}
 use Rattle.archive.specs.Outcome.{Outcome, refused, Carried}
 use Rattle.archive.specs.declared.fault.Fault.{Fault}
 use Rattle.archive.specs.declared.fault.Fault.TheVariants.{Refused}
+use Rattle.archive.specs.declared.loss.Loss.{Loss}
 use Rattle.archive.specs.declared.stripe.Stripe.{Stripe}
 use Rattle.archive.specs.declared.stripe.Rewrite.{Rewrite}
 
@@ -87,6 +90,16 @@ writing_if k x hs bay place word None = writing_over k x hs bay place word (slic
 abbrev pub writing : Arithmetic → Coefficients → List (Option Held) → ℕ → ℕ → ℕ → Outcome (List (Option Held)) Shown
 writing k x hs bay place word =
     writing_if k x hs bay place word (word_refusal x.n (length hs) k.order bay place word)
+
+-- why lost bays are refused: one of them is none of the plan's
+abbrev pub loss_refusal : Coefficients → List ℕ → Option Refusal
+loss_refusal x lost = first_of ((list_any (nat_le (x.n + x.m)) lost, NoSuchBay) ∷ [])
+
+-- What is told of lost bays: bit b is set just where the other bays of the plan tell the row of bay b.
+abbrev pub Loses : Arithmetic → Coefficients → List ℕ → Result Loss Fault → Type 0
+Loses k x lost (Ok l) =
+    (loss_refusal x lost ≡ None) × (vec_items l.lost ≡ lost) × (l.data_bays ≡ x.n) × TellsJust k x (left lost) l.told
+Loses k x lost (Err e) = option_map Refused (loss_refusal x lost) ≡ Some e
 
 -- What the calls promise of the stripes before and after them.
 abbrev pub Lays : Arithmetic → Coefficients → List (Option Stripe) → List (Option Stripe) → ℕ → List ℕ → Result Stripe Fault → Type 0

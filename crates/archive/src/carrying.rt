@@ -1,6 +1,6 @@
 ghost use Rattle.std.specs.Prelude.{◌≡◌, Some, None};
 ghost use Rattle.archive.specs.Contents.{kept};
-ghost use Rattle.archive.specs.Entries.{answered, Carries, Takes, Afresh};
+ghost use Rattle.archive.specs.Entries.{answered, Carries, Takes, Afresh, Told};
 
 use crate::contents::Contents;
 use crate::fault::Fault;
@@ -19,10 +19,12 @@ impl Archive {
     }
 
     // Carries out one line of a script, and answers what the account says of it: nothing, where the line means nothing.
-    // A line that is refused changes nothing. The checks that a write moved are the ones computed afresh.
+    // A line that is refused changes nothing. The checks that a write moved are the ones computed afresh,
+    // and of lost bays it tells just what the others tell.
     pub fn take_line(&mut self, heap: Global, line: &[u8]) -> Result<Option<Report>, Fault>
         ensures takes { Takes self.old.contents self.new.contents line.now result }
         ensures afresh { Afresh result }
+        ensures told { Told (kept self.old.contents) result }
     {
         match read_command(heap, line)? {
             None => Ok(None),
@@ -34,6 +36,7 @@ impl Archive {
     fn carry_out(&mut self, heap: Global, command: Command) -> Result<Report, Fault>
         ensures carries { Carries self.old.contents self.new.contents command result }
         ensures afresh { Afresh (answered Some result) }
+        ensures told { Told (kept self.old.contents) (answered Some result) }
     {
         match command {
             Command::Archive(description) => {
@@ -54,6 +57,10 @@ impl Archive {
                     word,
                     rewrite,
                 })
+            }
+            Command::Lost { bays } => {
+                let contents = self.contents.as_ref().ok_or(Fault::NoArchive)?;
+                Ok(Report::Lost(contents.loss(bays)?))
             }
         }
     }

@@ -1,7 +1,8 @@
-ghost use Rattle.archive.specs.Contents.{LaysIn, WritesIn, Made, MadeStripes};
+ghost use Rattle.archive.specs.Contents.{LaysIn, WritesIn, LosesIn, Made, MadeStripes};
 
 use crate::contents::Contents;
 use crate::fault::Fault;
+use crate::loss::Loss;
 use crate::stripe::{Rewrite, Stripe};
 use crate::stripes::Stripes;
 use command::{Description, FieldName};
@@ -60,6 +61,17 @@ impl Contents {
             Contents::Nibble(stripes) => stripes.write(bay, place, word),
             Contents::Byte(stripes) => stripes.write(bay, place, word),
             Contents::Count(stripes) => stripes.write(bay, place, word),
+        }
+    }
+
+    // What is still told where these bays are lost, whatever the field.
+    pub fn loss(&self, lost: Vec<u32>) -> Result<Loss, Fault>
+        ensures { LosesIn self.now lost.items result }
+    {
+        match self {
+            Contents::Nibble(stripes) => stripes.loss(lost),
+            Contents::Byte(stripes) => stripes.loss(lost),
+            Contents::Count(stripes) => stripes.loss(lost),
         }
     }
 }

@@ -1,6 +1,7 @@
 ghost use Rattle.std.specs.Prelude.{◌≡◌, codes};
 ghost use Rattle.archive.specs.Fields.{arithmetic_of};
 
+use crate::loss::Loss;
 use crate::stripe::{Rewrite, Stripe};
 use command::{Description, FieldName};
 use field::{Byte, Count, Field, Nibble};
@@ -23,14 +24,19 @@ pub enum Report {
         word: u32,
         rewrite: Rewrite,
     },
+    // What is still told where bays are lost.
+    Lost(Loss),
 }
 
-// Words, with blanks between them.
+// Words, with blanks between them; `none` where there is none.
 #[derive(Clone, Copy)]
 struct Row<'a>(&'a [u32]);
 
 impl fmt::Display for Row<'_> {
     fn fmt<W: fmt::Write>(&self, f: &mut fmt::Formatter<W>) -> fmt::Result {
+        if self.0.is_empty() {
+            return f.write_str("none");
+        }
         // With a blank before all but the first: std's join allocates, which printing can't.
         for (i, word) in self.0.iter().enumerate() {
             if i > 0 {
@@ -116,6 +122,7 @@ impl fmt::Display for Report {
                     rewrite.old
                 )
             }
+            Report::Lost(loss) => write!(f, "lost bays {}: {loss}", Row(&loss.lost)),
         }
     }
 }

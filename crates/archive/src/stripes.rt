@@ -1,13 +1,24 @@
-ghost use Rattle.std.specs.Prelude.{◌≡◌, ◌%◌, length, replicate, IfOk, None};
+ghost use Rattle.std.specs.Prelude.{◌≡◌, ◌%◌, length, replicate, IfOk, None, nat_le};
+ghost use Rattle.std.specs.List.{list_any};
+ghost use Rattle.shelf.specs.Refusals.{Tests};
 ghost use Rattle.plan.specs.Rows.{codes, checks_on, all_moved};
-ghost use Rattle.archive.specs.Stripes.{held, held_at, laid, rewritten, shown, comparing, Lays, Writes};
+ghost use Rattle.archive.specs.Stripes.{held, held_at, laid, rewritten, shown, comparing, Lays, Writes, Loses, loss_refusal};
 
 use crate::fault::Fault;
+use crate::loss::Loss;
 use crate::stripe::{Rewrite, Stripe};
 use field::Field;
+use linear::told_without;
 use plan::{Plan, check_word, moved_word};
 use shelf::{Refusal, Shape};
 use std::alloc::{AllocError, Global};
+
+// Whether a bay on the list is at or past this one. Rust has no From of u32 for usize, so a bay is cast, which loses nothing.
+fn reaches(list: &[u32], bay: usize) -> bool
+    ensures { result ≡ list_any (nat_le bay) list.now }
+{
+    list.iter().any(|other| *other as usize >= bay)
+}
 
 // The stripes of an archive, by place: none where nothing was laid.
 #[derive(Drop)]
@@ -123,5 +134,29 @@ impl<P: Plan> Stripes<P> {
         let rewrite = self.shown(bay, stripe, &next)?;
         self.places[place] = Some(next);
         Ok(rewrite)
+    }
+
+    // Refused by 1 where one of the bays is none of the plan's.
+    fn check_lost(&self, lost: &[u32]) -> Result<(), Refusal>
+        ensures { Tests (loss_refusal (P.Plan.coefficients self.now.plan) lost.now) result }
+    {
+        if reaches(lost, self.plan.data_bays() + self.plan.check_bays()) {
+            Err(Refusal::NoSuchBay)
+        } else {
+            Ok(())
+        }
+    }
+
+    // What is still told where these bays are lost, data bays and then check bays.
+    pub fn loss(&self, lost: Vec<u32>) -> Result<Loss, Fault>
+        ensures { Loses P.F.Field.arithmetic (P.Plan.coefficients self.now.plan) lost.items result }
+    {
+        self.check_lost(&lost)?;
+        let told = told_without(&self.plan, &lost);
+        Ok(Loss {
+            lost,
+            data_bays: self.plan.data_bays(),
+            told,
+        })
     }
 }

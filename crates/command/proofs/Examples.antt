@@ -2,7 +2,7 @@
 use Rattle.std.proofs.Common.{◌≡◌, [], ◌∷◌, Some, None, Ok, Err, codes, refl}
 use Rattle.command.specs.Calls as calls
 use Rattle.command.specs.Calls.{calling, drilling}
-use Rattle.command.specs.Reading.{archive, lay, write, reading, archiving}
+use Rattle.command.specs.Reading.{archive, lay, write, lost, reading, archiving}
 use Rattle.command.specs.declared.command.FieldName.TheVariants.{Byte}
 use Rattle.command.specs.declared.command.Fault.TheVariants.{UnknownCommand, UnknownPlan, NotANumber, TokenCount}
 
@@ -21,6 +21,10 @@ lays_none = refl
 writes : reading (codes "write 1 2 4294967295") ≡ Ok (Some (write 1 2 4294967295))
 unfolding reading
 writes = refl
+
+loses : reading (codes "lost 0 5 7 8") ≡ Ok (Some (lost (0 ∷ 5 ∷ 7 ∷ 8 ∷ [])))
+unfolding reading
+loses = refl
 
 remarks : reading (codes " #write 1 2 3") ≡ Ok None
 unfolding reading

@@ -9,6 +9,10 @@ use Rattle.command.specs.declared.command.Fault.TheVariants.{TokenCount}
 abbrev pub exactly : ℕ → List ℕ → Result (List ℕ) Fault
 exactly n ns = cond (length ns == n) (Ok ns) (Err TokenCount)
 
+-- any number of them
+abbrev pub any : List ℕ → Result (List ℕ) Fault
+any ns = Ok ns
+
 -- a number, and any number of others
 abbrev pub one_and_rest : List ℕ → Result (ℕ × List ℕ) Fault
 one_and_rest [] = Err TokenCount

@@ -2,11 +2,11 @@
 use Rattle.std.specs.Prelude.{ℕ, cond, List, [], ◌∷◌, Ok, Err, vec_items, codes, slice_index, Option, Result}
 use Rattle.std.specs.Option.{option_map}
 use Rattle.std.specs.Str.{bytes_eq}
-use Rattle.command.specs.Arguments.{exactly, one_and_rest, taking}
+use Rattle.command.specs.Arguments.{exactly, any, one_and_rest, taking}
 use Rattle.command.specs.Lines.{line_means, present}
 use Rattle.command.specs.Outcome.{following, Answers}
 use Rattle.command.specs.declared.command.Command.{Command}
-use Rattle.command.specs.declared.command.Command.TheVariants.{Archive, Lay, Write}
+use Rattle.command.specs.declared.command.Command.TheVariants.{Archive, Lay, Write, Lost}
 use Rattle.command.specs.declared.command.Description.{Description}
 use Rattle.command.specs.declared.command.FieldName.{FieldName}
 use Rattle.command.specs.declared.command.FieldName.TheVariants.{Nibble, Byte, Count}
@@ -18,12 +18,14 @@ pub data Order : Type 0 where
   archive : Description → Order
   lay : ℕ → List ℕ → Order
   write : ℕ → ℕ → ℕ → Order
+  lost : List ℕ → Order
 
 -- the command that a value of the program stands for
 abbrev pub meant : Command → Order
 meant (Archive d) = archive d
 meant (Lay place words) = lay place (vec_items words)
 meant (Write bay place word) = write bay place word
+meant (Lost bays) = lost (vec_items bays)
 
 -- a token, and then what those after it mean
 abbrev pub token_then : {X : Type 0} → List (List ℕ) → (List ℕ → List (List ℕ) → Result X Fault) → Result X Fault
@@ -58,13 +60,18 @@ laying ts = taking one_and_rest 2 ts (λ n. lay n.0 n.1)
 abbrev pub writing : List (List ℕ) → Result Order Fault
 writing ts = taking (exactly 3) 2 ts (λ n. write (slice_index n 0) (slice_index n 1) (slice_index n 2))
 
+-- lost BAY BAY ..
+abbrev pub losing : List (List ℕ) → Result Order Fault
+losing ts = taking any 2 ts lost
+
 -- the command of this name, with these tokens after the name
 abbrev pub named : List ℕ → List (List ℕ) → Result Order Fault
 named name ts =
     cond (bytes_eq name (codes "archive")) (archiving ts)
     (cond (bytes_eq name (codes "lay")) (laying ts)
     (cond (bytes_eq name (codes "write")) (writing ts)
-    (Err UnknownCommand)))
+    (cond (bytes_eq name (codes "lost")) (losing ts)
+    (Err UnknownCommand))))
 
 -- what a line means
 unfoldable pub reading : List ℕ → Result (Option Order) Fault

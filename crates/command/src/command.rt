@@ -76,6 +76,8 @@ pub enum Command {
     Lay { place: u32, words: Vec<u32> },
     // Put one word at a place of a bay.
     Write { bay: u32, place: u32, word: u32 },
+    // Tell which data bays the other bays still tell where these bays are lost.
+    Lost { bays: Vec<u32> },
 }
 
 // Why a line gives no command.

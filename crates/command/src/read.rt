@@ -9,6 +9,7 @@ ghost use Rattle.command.specs.Reading.{Reads, meant, named, archiving, plan_of}
 use crate::arguments::{read_exactly, read_one_and_rest};
 use crate::command::{Command, Description, Fault, FieldName};
 use crate::cursor::{Cursor, name_of};
+use crate::number::numbers;
 use std::alloc::Global;
 
 // The command that a line gives, or None where the line has no token, or where its first begins with '#'.
@@ -36,6 +37,10 @@ fn read_named(heap: Global, name: &[u8], arguments: Cursor) -> Result<Command, F
         b"write" => {
             let [bay, place, word] = read_exactly::<3>(heap, arguments, 2)?;
             Ok(Command::Write { bay, place, word })
+        }
+        b"lost" => {
+            let bays = numbers(heap, arguments, 2)?;
+            Ok(Command::Lost { bays })
         }
         _ => Err(Fault::UnknownCommand),
     }

@@ -10,4 +10,5 @@ returns-in_default c =
     let not_archive = differs s (codes "archive") (λ len bytes. grind (arith, nat_tests)) in
     let not_lay = differs s (codes "lay") (λ len bytes. grind (arith, nat_tests)) in
     let not_write = differs s (codes "write") (λ len bytes. grind (arith, nat_tests)) in
-    inr (simp (not_archive, not_lay, not_write))
+    let not_lost = differs s (codes "lost") (λ len bytes. grind (arith, nat_tests)) in
+    inr (simp (not_archive, not_lay, not_write, not_lost))
