@@ -9,25 +9,22 @@ use Rattle.field.specs.Arithmetic.{Arithmetic, Lawful}
 use Rattle.field.specs.Laws.{zero_below, one_below, code, add-zero, mul-one}
 use Rattle.plan.specs.Bounds.{most_data}
 use Rattle.plan.specs.Rows.{dot, Vector}
-use Rattle.plan.proofs.Dots.{Codes, vector_codes, dot_below, dot-set}
+use Rattle.plan.proofs.Dots.{Codes, vector_codes, dot-set}
 use Rattle.linear.specs.Equations.{column, entry, gives}
 use Rattle.linear.specs.Elimination.{Zero, Echelon}
 use Rattle.plan.proofs.Ring.{minus, minus_below, add-minus, sub-from, mul-zero, zero-mul}
 use Rattle.plan.proofs.Sums.{map_codes}
-use Rattle.linear.proofs.Values.{entry_below}
+use Rattle.linear.proofs.Values.{entry_below, gives_below}
 use Rattle.linear.specs.declared.equation.Equation.{Equation}
 use Rattle.linear.specs.declared.pivot.Pivot.{Pivot}
 
 module _ (k : Arithmetic) (l : Lawful k) where
-  -- what the row of an equation gives
-  abbrev pub on : Equation → List ℕ → ℕ
-  on e v = dot k (map (entry k e) (range_with_len 0 most_data)) v
-
+  -- the columns of an equation are codes
   row_codes : (e : Equation) → Codes k (map (entry k e) (range_with_len 0 most_data))
   row_codes e = map_codes k l (entry k e) (range_with_len 0 most_data) (entry_below k l e)
 
-  pub on_below : (e : Equation) (v : List ℕ) → Vector k most_data v → on e v < k.order
-  on_below e v h = dot_below k l _ v (row_codes e) (vector_codes k l most_data v h)
+  code_of : (e : Equation) (v : List ℕ) → Vector k most_data v → gives k e.row v < k.order
+  code_of e v h = gives_below k l e v (vector_codes k l most_data v h)
 
   -- a vector stays one when a code is put into it
   pub vector-set : (v : List ℕ) (j new : ℕ) → j < most_data → new < k.order → Vector k most_data v → Vector k most_data (set v j new)
@@ -40,12 +37,12 @@ module _ (k : Arithmetic) (l : Lawful k) where
   }
 
   -- one code changed: the row gives more by its column times the difference
-  on-set : (e : Equation) (v : List ℕ) (j new : ℕ) → j < most_data → new < k.order → Vector k most_data v → on e (set v j new) ≡ k.add (on e v) (k.mul (entry k e j) (k.sub new (get_or v j 0)))
-  on-set e v j new d low h =
+  gives-set : (e : Equation) (v : List ℕ) (j new : ℕ) → j < most_data → new < k.order → Vector k most_data v → gives k e.row (set v j new) ≡ k.add (gives k e.row v) (k.mul (entry k e j) (k.sub new (get_or v j 0)))
+  gives-set e v j new d low h =
       let js = range_with_len 0 most_data in
       let wide : length (map (entry k e) js) ≡ most_data = length-map-range_with_len (entry k e) 0 most_data in
       dot-set k l (map (entry k e) js) v j new (let w = h.long in omega arith) (omega arith) low (row_codes e) (vector_codes k l most_data v h)
-      ∙ ap (λ y. k.add (on e v) (k.mul y (k.sub new (get_or v j 0)))) (get_or-map-range_with_len (entry k e) 0 most_data j j 0 d (omega arith))
+      ∙ ap (λ y. k.add (gives k e.row v) (k.mul y (k.sub new (get_or v j 0)))) (get_or-map-range_with_len (entry k e) 0 most_data j j 0 d (omega arith))
 
   -- the vector of zeros
   abbrev pub no_code : ℕ → ℕ
@@ -77,12 +74,12 @@ module _ (k : Arithmetic) (l : Lawful k) where
   pub unit_vector : (c : ℕ) → c < most_data → Vector k most_data (unit c)
   unit_vector c d = vector-set zeros c 1 d (one_below k l) zeros_vector
 
-  pub on_unit : (e : Equation) (c : ℕ) → c < most_data → on e (unit c) ≡ entry k e c
-  on_unit e c d =
+  pub gives_unit : (e : Equation) (c : ℕ) → c < most_data → gives k e.row (unit c) ≡ entry k e c
+  gives_unit e c d =
       let low = entry_below k l e c in
       let z = zero_below k l in
       let gone : get_or zeros c 0 ≡ 0 = get_or-map-range_with_len no_code 0 most_data c c 0 d (omega arith) in
-      on-set e zeros c 1 d (one_below k l) zeros_vector
+      gives-set e zeros c 1 d (one_below k l) zeros_vector
       ∙ ap₂ (λ a b. k.add a (k.mul (entry k e c) (k.sub 1 b))) (gives_zeros e.row) gone
       ∙ ap (λ y. k.add 0 (k.mul (entry k e c) y)) (sub-from k l 1 0 1 (one_below k l) z (one_below k l) (add-zero k l 1 (one_below k l)))
       ∙ ap (k.add 0) (mul-one k l _ low)
@@ -90,38 +87,38 @@ module _ (k : Arithmetic) (l : Lawful k) where
 
   -- the vector, moved in the column of the pivot so that the pivot gives zero
   abbrev settled : Pivot → List ℕ → List ℕ
-  settled p v = set v p.column (k.add (get_or v p.column 0) (minus k l (on p.equation v)))
+  settled p v = set v p.column (k.add (get_or v p.column 0) (minus k l (gives k p.equation.row v)))
 
-  settled_code : (p : Pivot) (v : List ℕ) → Vector k most_data v → k.add (get_or v p.column 0) (minus k l (on p.equation v)) < k.order
-  settled_code p v h = l.add_below _ _ (h.below p.column p.fits) (minus_below k l _ (on_below p.equation v h))
+  settled_code : (p : Pivot) (v : List ℕ) → Vector k most_data v → k.add (get_or v p.column 0) (minus k l (gives k p.equation.row v)) < k.order
+  settled_code p v h = l.add_below _ _ (h.below p.column p.fits) (minus_below k l _ (code_of p.equation v h))
 
   pub settled_vector : (p : Pivot) (v : List ℕ) → Vector k most_data v → Vector k most_data (settled p v)
   settled_vector p v h = vector-set v p.column _ p.fits (settled_code p v h) h
 
   -- what a row then gives
-  on-settled : (p : Pivot) (e : Equation) (v : List ℕ) → Vector k most_data v → on e (settled p v) ≡ k.add (on e v) (k.mul (entry k e p.column) (minus k l (on p.equation v)))
-  on-settled p e v h =
+  gives-settled : (p : Pivot) (e : Equation) (v : List ℕ) → Vector k most_data v → gives k e.row (settled p v) ≡ k.add (gives k e.row v) (k.mul (entry k e p.column) (minus k l (gives k p.equation.row v)))
+  gives-settled p e v h =
       let x = get_or v p.column 0 in
       let hx = h.below p.column p.fits in
-      let m = minus k l (on p.equation v) in
-      let hm = minus_below k l _ (on_below p.equation v h) in
-      on-set e v p.column (k.add x m) p.fits (settled_code p v h) h
-      ∙ ap (λ y. k.add (on e v) (k.mul (entry k e p.column) y)) (sub-from k l (k.add x m) x m (settled_code p v h) hx hm (l.add_comm m x hm hx))
+      let m = minus k l (gives k p.equation.row v) in
+      let hm = minus_below k l _ (code_of p.equation v h) in
+      gives-set e v p.column (k.add x m) p.fits (settled_code p v h) h
+      ∙ ap (λ y. k.add (gives k e.row v) (k.mul (entry k e p.column) y)) (sub-from k l (k.add x m) x m (settled_code p v h) hx hm (l.add_comm m x hm hx))
 
   -- the pivot gives zero, since it has one in its column
-  settled_here : (p : Pivot) (v : List ℕ) → Vector k most_data v → entry k p.equation p.column ≡ 1 → on p.equation (settled p v) ≡ 0
+  settled_here : (p : Pivot) (v : List ℕ) → Vector k most_data v → entry k p.equation p.column ≡ 1 → gives k p.equation.row (settled p v) ≡ 0
   settled_here p v h one =
-      let low = on_below p.equation v h in
-      on-settled p p.equation v h
-      ∙ ap (k.add (on p.equation v)) (ap (λ y. k.mul y (minus k l (on p.equation v))) one ∙ l.one-mul _ (minus_below k l _ low))
+      let low = code_of p.equation v h in
+      gives-settled p p.equation v h
+      ∙ ap (k.add (gives k p.equation.row v)) (ap (λ y. k.mul y (minus k l (gives k p.equation.row v))) one ∙ l.one-mul _ (minus_below k l _ low))
       ∙ add-minus k l _ low
 
   -- a row with zero in that column gives what it gave
-  settled_else : (p : Pivot) (e : Equation) (v : List ℕ) → Vector k most_data v → Zero k p.column e → on e (settled p v) ≡ on e v
+  settled_else : (p : Pivot) (e : Equation) (v : List ℕ) → Vector k most_data v → Zero k p.column e → gives k e.row (settled p v) ≡ gives k e.row v
   settled_else p e v h z =
-      on-settled p e v h
-      ∙ ap (k.add (on e v)) (ap (λ y. k.mul y (minus k l (on p.equation v))) z ∙ zero-mul k l _ (minus_below k l _ (on_below p.equation v h)))
-      ∙ add-zero k l _ (on_below e v h)
+      gives-settled p e v h
+      ∙ ap (k.add (gives k e.row v)) (ap (λ y. k.mul y (minus k l (gives k p.equation.row v))) z ∙ zero-mul k l _ (minus_below k l _ (code_of p.equation v h)))
+      ∙ add-zero k l _ (code_of e v h)
 
   -- settled for all pivots, the last one first
   abbrev pub null : List Pivot → List ℕ → List ℕ
@@ -133,16 +130,16 @@ module _ (k : Arithmetic) (l : Lawful k) where
   null_vector (p ∷ ps) v h = settled_vector p (null ps v) (null_vector ps v h)
 
   -- Each pivot gives zero: the later ones have zero in the columns of the earlier ones.
-  pub null_pivots : (ps : List Pivot) (v : List ℕ) → Echelon k ps → Vector k most_data v → All (λ p. on p.equation (null ps v) ≡ 0) ps
-  null_pivots [] v h hv = All-nil (λ p. on p.equation v ≡ 0)
+  pub null_pivots : (ps : List Pivot) (v : List ℕ) → Echelon k ps → Vector k most_data v → All (λ p. gives k p.equation.row (null ps v) ≡ 0) ps
+  null_pivots [] v h hv = All-nil (λ p. gives k p.equation.row v ≡ 0)
   null_pivots (p ∷ ps) v h hv =
       let w = null ps v in
       let hw = null_vector ps v hv in
       let before = null_pivots ps v h.2 hv in
-      All-cons (λ q. on q.equation (settled p w) ≡ 0) p ps (settled_here p w hw h.0) (λ n d i. settled_else p (get_or ps n d).equation w hw (h.1 n d i) ∙ before n d i)
+      All-cons (λ q. gives k q.equation.row (settled p w) ≡ 0) p ps (settled_here p w hw h.0) (λ n d i. settled_else p (get_or ps n d).equation w hw (h.1 n d i) ∙ before n d i)
 
   -- A row with zero in the columns of the pivots gives what it gave.
-  pub null_else : (ps : List Pivot) (e : Equation) (v : List ℕ) → Vector k most_data v → All (λ p. Zero k p.column e) ps → on e (null ps v) ≡ on e v
+  pub null_else : (ps : List Pivot) (e : Equation) (v : List ℕ) → Vector k most_data v → All (λ p. Zero k p.column e) ps → gives k e.row (null ps v) ≡ gives k e.row v
   null_else [] e v hv z = refl
   null_else (p ∷ ps) e v hv z =
       settled_else p e (null ps v) (null_vector ps v hv) (All-head (λ p. Zero k p.column e) p ps z)

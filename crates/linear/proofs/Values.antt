@@ -43,13 +43,14 @@ module _ (k : Arithmetic) (l : Lawful k) where
   pub entry_below : (e : Equation) (j : ℕ) → entry k e j < k.order
   entry_below e j = code k l (slice_index e.row j)
 
-  columns_below : (e : Equation) (v : List ℕ) → Codes k v → dot k (map (entry k e) (range_with_len 0 most_data)) v < k.order
-  columns_below e v h = dot_below k l (map (entry k e) (range_with_len 0 most_data)) v (map_codes k l (entry k e) (range_with_len 0 most_data) (entry_below e)) h
+  -- so is what they give on codes
+  pub gives_below : (e : Equation) (v : List ℕ) → Codes k v → gives k e.row v < k.order
+  gives_below e v h = dot_below k l (map (entry k e) (range_with_len 0 most_data)) v (map_codes k l (entry k e) (range_with_len 0 most_data) (entry_below e)) h
 
   pub value_below : (u : List ℕ) (e : Equation) → Codes k u → value k u e < k.order
   unfolding dot
   value_below [] e h = zero_below k l
-  value_below (x ∷ xs) e h = l.add_below _ _ (l.mul_below _ _ (code k l e.word) (h 0)) (columns_below e xs (λ i. h (suc i)))
+  value_below (x ∷ xs) e h = l.add_below _ _ (l.mul_below _ _ (code k l e.word) (h 0)) (gives_below e xs (λ i. h (suc i)))
 
   -- a code for the words, in front of a data vector
   pub front_codes : (s : ℕ) (v : List ℕ) → s < k.order → Vector k most_data v → Codes k (s ∷ v)
@@ -61,7 +62,7 @@ module _ (k : Arithmetic) (l : Lawful k) where
   unfolding dot
   value_null v e h =
       ap (λ y. k.add y (gives k e.row v)) (mul-zero k l _ (code k l e.word))
-      ∙ l.zero-add _ (columns_below e v (vector_codes k l most_data v h))
+      ∙ l.zero-add _ (gives_below e v (vector_codes k l most_data v h))
 
   -- a row with nothing in its columns gives zero
   pub gives_none : (e : Equation) (v : List ℕ) → Vector k most_data v → ((j : ℕ) → j < most_data → entry k e j ≡ 0) → gives k e.row v ≡ 0
@@ -85,7 +86,7 @@ module _ (k : Arithmetic) (l : Lawful k) where
       ∙ ap (λ y. k.add (k.add (k.mul y x) (dot k (map r js) xs)) (k.mul (b % k.order) (value k (x ∷ xs) o))) (mod-eq_of_lt (lessened_below b o.word e.word))
       ∙ less_more k l (b % k.order) x w (o.word % k.order) (e.word % k.order) (dot k (map r js) xs) (dot k (map (entry k o) js) xs) (dot k (map (entry k e) js) xs)
       (code k l b) (h 0) (lessened_below b o.word e.word) (code k l o.word)
-      (dot_below k l (map r js) xs (map_codes k l r js low) hxs) (columns_below o xs hxs)
+      (dot_below k l (map r js) xs (map_codes k l r js low) hxs) (gives_below o xs hxs)
       (lessened_back b o.word e.word)
       (dot-less k l (b % k.order) r (entry k o) (entry k e) (code k l b) low (entry_below o) (λ j. lessened_back b (slice_index o.row j) (slice_index e.row j)) js xs hxs)
 
@@ -99,7 +100,7 @@ module _ (k : Arithmetic) (l : Lawful k) where
       let hxs : Codes k xs = λ i. h (suc i) in
       ap (λ cs. k.add (k.mul (scaled k b e.word % k.order) x) (dot k cs xs)) (made_columns r (λ j. scaled_below b (slice_index e.row j)))
       ∙ times_more k l (b % k.order) x (scaled k b e.word % k.order) (e.word % k.order) (dot k (map r js) xs) (dot k (map (entry k e) js) xs)
-      (code k l b) (h 0) (code k l e.word) (columns_below e xs hxs)
+      (code k l b) (h 0) (code k l e.word) (gives_below e xs hxs)
       (mod-eq_of_lt (scaled_below b e.word))
       (dot-times k l (b % k.order) r (entry k e) (code k l b) (entry_below e) (λ j. refl) js xs hxs)
 

@@ -9,13 +9,13 @@ use Rattle.field.specs.Arithmetic.{Arithmetic, Lawful}
 use Rattle.field.specs.Laws.{zero_below, one_below, code, add-zero, mul-one}
 use Rattle.plan.specs.Bounds.{most_data}
 use Rattle.plan.specs.Rows.{dot, Vector}
-use Rattle.plan.proofs.Dots.{Codes}
+use Rattle.plan.proofs.Dots.{Codes, vector_codes}
 use Rattle.linear.specs.Equations.{entry, has_row, gives, Satisfies, Told, Open, cleared}
 use Rattle.linear.specs.Elimination.{value, Zero, Echelon, Vanishes, VanishesOnPivots, Eliminated, reduced}
 use Rattle.linear.proofs.Equations.{equation}
 use Rattle.plan.proofs.Ring.{minus, minus_below, sub-from, mul-zero, zero-mul}
-use Rattle.linear.proofs.Values.{front_codes, value_null, gives_none, value-cleared, cleared-here, cleared-else}
-use Rattle.linear.proofs.Nulls.{on_below, unit, unit_vector, on_unit, null, null_vector, null_pivots, null_else}
+use Rattle.linear.proofs.Values.{gives_below, front_codes, value_null, gives_none, value-cleared, cleared-here, cleared-else}
+use Rattle.linear.proofs.Nulls.{unit, unit_vector, gives_unit, null, null_vector, null_pivots, null_else}
 use Rattle.linear.specs.declared.equation.Equation.{Equation}
 use Rattle.linear.specs.declared.pivot.Pivot.{Pivot}
 
@@ -106,7 +106,7 @@ module _ (k : Arithmetic) (l : Lawful k) where
   value_wordless row v h =
       ap (λ y. k.add (k.mul y m) (gives k row v)) (mod-eq_of_lt (zero_below k l))
       ∙ ap (λ y. k.add y (gives k row v)) (zero-mul k l m m_below)
-      ∙ l.zero-add _ (on_below k l (equation row 0) v h)
+      ∙ l.zero-add _ (gives_below k l (equation row 0) v (vector_codes k l most_data v h))
 
   -- with no row it gives its word, by what stands for the words
   value_rowless : (e : Equation) (v : List ℕ) → has_row k e ≡ false → Vector k most_data v → value k (m ∷ v) e ≡ k.mul (e.word % k.order) m
@@ -145,5 +145,5 @@ module _ (k : Arithmetic) (l : Lawful k) where
         ∙ sym (value-reduced (0 ∷ z) (front_codes k l 0 z (zero_below k l) hz) ps (equation target 0) pivots)
         ∙ value_null k l z rest hz
         ∙ null_else k l ps rest u hu (reduced_zero ps (equation target 0) h.echelon)
-        ∙ on_unit k l rest c within in
+        ∙ gives_unit k l rest c within in
         (z, hz, λ n d i. sym (value_null k l z (get_or es n d) hz) ∙ h.back z hz pivots n d i, λ e. seen (sym same ∙ e))
