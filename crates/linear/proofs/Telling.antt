@@ -88,10 +88,14 @@ module _ (x : Coefficients) (set : ℕ → Bool) where
 
 module _ (k : Arithmetic) (l : Lawful k) (x : Coefficients) (fit : Fitting k x) where
   -- what the whole row of a bay gives is what the row of the bay gives on the front of the vector
-  gives_front : (b : ℕ) (z : List ℕ) → Vector k most_data z → gives k (whole_row x b) z ≡ dot k (row x b) (take x.n z)
+  pub gives_front : (b : ℕ) (z : List ℕ) → Vector k most_data z → gives k (whole_row x b) z ≡ dot k (row x b) (take x.n z)
   gives_front b z h =
       ap (λ r. dot k r z) (made_columns k l (entry x b) (entry_code k l x fit b))
       ∙ sym (dot-front k l x fit b z (vector_codes k l most_data z h))
+
+  -- so on a data vector with zeros after it the whole row gives what the row gives on the vector
+  pub gives_padded : (b : ℕ) (v : List ℕ) → Vector k x.n v → gives k (whole_row x b) (padded k l x fit v) ≡ dot k (row x b) v
+  gives_padded b v h = gives_front b (padded k l x fit v) (padded_vector k l x fit v h) ∙ ap (dot k (row x b)) (padded_front k l x fit v h)
 
   module _ (set : ℕ → Bool) (r : ℕ) where
     abbrev rows : List Equation
@@ -104,16 +108,14 @@ module _ (k : Arithmetic) (l : Lawful k) (x : Coefficients) (fit : Fitting k x) 
     -- a vector on which the rows give zero satisfies them
     satisfied : (v : List ℕ) → Vector k x.n v → ((b : ℕ) → b < x.n + x.m → set b ≡ true → dot k (row x b) v ≡ 0) → All (Satisfies k (padded k l x fit v)) rows
     satisfied v h z =
-        let long = padded_vector k l x fit v h in
-        to_rows x set (Satisfies k (padded k l x fit v)) 0 (x.n + x.m)
-        (λ b low high e. gives_front b (padded k l x fit v) long ∙ ap (dot k (row x b)) (padded_front k l x fit v h) ∙ z b (omega arith) e ∙ none)
+        to_rows x set (Satisfies k (padded k l x fit v)) 0 (x.n + x.m) (λ b low high e. gives_padded b v h ∙ z b (omega arith) e ∙ none)
 
     -- Where the rows tell a word, it is zero, which the vector of zeros has; so they tell the row.
     pub told_tells : (w : ℕ) → Told k rows (whole_row x r) w → Tells k x set r
     told_tells w told v h z =
         let from_zeros : gives k (whole_row x r) (zeros k l) ≡ w =
         told.1 (zeros k l) (zeros_vector k l) (to_rows x set (Satisfies k (zeros k l)) 0 (x.n + x.m) (λ b low high e. gives_zeros k l (whole_row x b) ∙ none)) in
-        sym (gives_front r (padded k l x fit v) (padded_vector k l x fit v h) ∙ ap (dot k (row x r)) (padded_front k l x fit v h))
+        sym (gives_padded r v h)
         ∙ told.1 (padded k l x fit v) (padded_vector k l x fit v h) (satisfied v h z)
         ∙ sym from_zeros
         ∙ gives_zeros k l (whole_row x r)

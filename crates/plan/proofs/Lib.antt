@@ -5,3 +5,5 @@ pub mod FromFn
 pub mod Ring
 pub mod Sums
 pub mod Padding
+pub mod Vectors
+pub mod DataRows
