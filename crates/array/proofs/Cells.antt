@@ -91,6 +91,13 @@ module _ (k : Arithmetic) (l : Lawful k) (x : Coefficients) (t : Table) (p j : �
       let (below, passes) = found_passes (common k x t p j) 0 k.order w (found_is k x (find (common k x t p j) (range_with_len 0 k.order)) w e) in
       entry_is v h ∙ common_from k x t p j w passes v h
 
+  -- and it is a code,
+  pub held_below : (w : ℕ) → cell ≡ holds w → w < k.order
+  unfolding decoded
+  held_below w e =
+      let (below, passes) = found_passes (common k x t p j) 0 k.order w (found_is k x (find (common k x t p j) (range_with_len 0 k.order)) w e) in
+      omega arith
+
   module _ (v : List ℕ) (h : Agrees k x t p v) where
     -- so a filled cell allows one value,
     pub holds_one : (w : ℕ) → cell ≡ holds w → AllowsOne k x t j p w

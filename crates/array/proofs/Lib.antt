@@ -4,3 +4,11 @@ pub mod Shapes
 pub mod Decay
 pub mod Gathering
 pub mod Telling
+pub mod Rewriting
+pub mod Moves
+pub mod Meaning
+pub mod Decays
+pub mod Reading
+pub mod Writing
+pub mod Adding
+pub mod Lays

@@ -1,6 +1,6 @@
 -- When a shelf below matches a plan, and the shape of the array over it.
 use Rattle.std.proofs.Common.{◌≡◌, ℕ, ◌+◌, ◌<◌, ◌≤◌, Bool, true, false, true≢false, cond, ◌&&◌, eqb, leb, sym, refl, ap, ◌∙◌, subst, inl, inr, arith}
-use Rattle.std.proofs.lemmas.Bool.{cases_Bool, cond-true, cond-false, and_parts, and_from, eq-eqb, eqb-true, leb-true}
+use Rattle.std.proofs.lemmas.Bool.{cases_Bool, cond-true, cond-false, and_parts, and_from, eq-eqb, eqb-true, le-leb, leb-true, false_from_ne_true}
 use Rattle.field.specs.Arithmetic.{Arithmetic}
 use Rattle.plan.specs.Coefficients.{Coefficients}
 use Rattle.shelf.specs.Table.{Table, SameShape}
@@ -14,6 +14,14 @@ module _ (k : Arithmetic) (x : Coefficients) where
   -- and the words of the field are below its limit.
   pub matched_limit : (t : Table) → matched k x t ≡ true → k.order ≤ t.limit
   matched_limit t e = leb-true k.order t.limit (and_parts _ _ e).1
+
+  -- Both together match.
+  pub matched_both : (t : Table) → t.bays ≡ x.n + x.m → k.order ≤ t.limit → matched k x t ≡ true
+  matched_both t e h = and_from _ _ (eq-eqb t.bays (x.n + x.m) e) (le-leb k.order t.limit h)
+
+  -- and where one fails the shelf does not match.
+  pub matched_not : (t : Table) → (t.bays ≡ x.n + x.m → k.order ≤ t.limit → ⊥) → matched k x t ≡ false
+  matched_not t fails = false_from_ne_true (matched k x t) (λ e. fails (matched_bays t e) (matched_limit t e))
 
   -- Matching is a matter of the shape.
   pub matched_same : (s t : Table) → SameShape s t → matched k x t ≡ matched k x s

@@ -24,6 +24,7 @@ use Rattle.linear.specs.Equations.{gives, Satisfies, Told, Open, Verdict}
 use Rattle.linear.proofs.Telling.{gives_front, gives_padded}
 use Rattle.array.specs.Decoding.{matched, Gives, Agrees, Allows, AllowsMore}
 use Rattle.array.specs.Finding.{bay_word, Gathered, Gathers, WordAnswer, Found, Finds}
+use Rattle.array.proofs.Adding.{gives_plus, zero_between}
 use Rattle.array.proofs.Cells.{not_both}
 use Rattle.array.proofs.Shapes.{matched_bays, matched_same}
 use Rattle.array.proofs.Decay.{KeptPlace, kept_place, allows_still}
@@ -62,9 +63,7 @@ module _ (k : Arithmetic) (l : Lawful k) (x : Coefficients) (fit : Fitting k x) 
     -- Added to a vector that agrees it makes one that agrees too,
     sum_gives : (c : ℕ) → c < x.n + x.m → (cell : Cell) → t.cell c p ≡ cell → Gives k x c v cell → Gives k x c (plus k l x.n v z) cell
     sum_gives c few blank is gave = tt
-    sum_gives c few (holds w) is gave =
-        let below = dot_below k l (row x c) v (row-codes k l x fit c) (vector_codes k l x.n v hv.vector) in
-        gave ∙ sym (dot-plus k l x.n v z hv.vector hz (row x c) (row-codes k l x fit c) ∙ ap (k.add (dot k (row x c) v)) (zero_filled c w few is) ∙ add-zero k l (dot k (row x c) v) below)
+    sum_gives c few (holds w) is gave = gives_plus k l x fit c v z hv.vector hz w gave (zero_filled c w few is)
 
     sum_agrees : Agrees k x t p (plus k l x.n v z)
     sum_agrees = record {
@@ -74,18 +73,13 @@ module _ (k : Arithmetic) (l : Lawful k) (x : Coefficients) (fit : Fitting k x) 
 
     -- with another word for the bay.
     open_more : AllowsMore k x t b p
-    open_more =
-        let codes = row-codes k l x fit b in
-        let low = dot_below k l (row x b) v codes (vector_codes k l x.n v hv.vector) in
-        let high = dot_below k l (row x b) z codes (vector_codes k l x.n z hz) in
-        let sum = dot-plus k l x.n v z hv.vector hz (row x b) codes in (
-          dot k (row x b) v,
-          dot k (row x b) (plus k l x.n v z),
-          (v, hv, refl),
-          (plus k l x.n v z, sum_agrees, refl),
-          λ same. open_.3 (gives_front k l x fit b open_.0 open_.1 ∙ add-cancel k l (dot k (row x b) z) 0 (dot k (row x b) v) high (zero_below k l) low
-              (l.add_comm (dot k (row x b) z) (dot k (row x b) v) high low ∙ sym sum ∙ sym same ∙ sym (l.zero-add (dot k (row x b) v) low))),
-        )
+    open_more = (
+      dot k (row x b) v,
+      dot k (row x b) (plus k l x.n v z),
+      (v, hv, refl),
+      (plus k l x.n v z, sum_agrees, refl),
+      λ same. open_.3 (gives_front k l x fit b open_.0 open_.1 ∙ zero_between k l x fit b v z hv.vector hz same),
+    )
 
   -- The verdict on the equations answers for the bay.
   verdict_answers : t.cell b p ≡ blank → (o : Option ℕ) → Verdict k es (whole_row x b) o → WordAnswer k x b p s t (ok_or o Lost)

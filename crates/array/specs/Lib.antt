@@ -1,2 +1,5 @@
 pub mod Decoding
 pub mod Finding
+pub mod Moving
+pub mod Changes
+pub mod Tables

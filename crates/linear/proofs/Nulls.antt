@@ -14,6 +14,7 @@ use Rattle.linear.specs.Equations.{column, entry, gives}
 use Rattle.linear.specs.Elimination.{Zero, Echelon}
 use Rattle.plan.proofs.Ring.{minus, minus_below, add-minus, sub-from, mul-zero, zero-mul}
 use Rattle.plan.proofs.Sums.{map_codes}
+use Rattle.plan.proofs.Vectors.{vector-set}
 use Rattle.linear.proofs.Values.{entry_below, gives_below}
 use Rattle.linear.specs.declared.equation.Equation.{Equation}
 use Rattle.linear.specs.declared.pivot.Pivot.{Pivot}
@@ -25,16 +26,6 @@ module _ (k : Arithmetic) (l : Lawful k) where
 
   code_of : (e : Equation) (v : List ℕ) → Vector k most_data v → gives k e.row v < k.order
   code_of e v h = gives_below k l e v (vector_codes k l most_data v h)
-
-  -- a vector stays one when a code is put into it
-  pub vector-set : (v : List ℕ) (j new : ℕ) → j < most_data → new < k.order → Vector k most_data v → Vector k most_data (set v j new)
-  vector-set v j new d low h = record {
-    long = length-set v j new ∙ h.long;
-    below = λ i b. elim (cases_eq i j) [
-      | inl e ↦ subst (λ (y : ℕ). y < k.order) (sym (ap (λ i. get_or (set v j new) i 0) e ∙ get_or-set_same v j new 0 (let w = h.long in omega arith))) low
-      | inr ne ↦ subst (λ (y : ℕ). y < k.order) (sym (get_or-set_other v j i new 0 ne)) (h.below i b)
-    ];
-  }
 
   -- one code changed: the row gives more by its column times the difference
   gives-set : (e : Equation) (v : List ℕ) (j new : ℕ) → j < most_data → new < k.order → Vector k most_data v → gives k e.row (set v j new) ≡ k.add (gives k e.row v) (k.mul (entry k e j) (k.sub new (get_or v j 0)))
@@ -72,7 +63,7 @@ module _ (k : Arithmetic) (l : Lawful k) where
   unit c = set zeros c 1
 
   pub unit_vector : (c : ℕ) → c < most_data → Vector k most_data (unit c)
-  unit_vector c d = vector-set zeros c 1 d (one_below k l) zeros_vector
+  unit_vector c d = vector-set k l most_data zeros c 1 (one_below k l) zeros_vector
 
   pub gives_unit : (e : Equation) (c : ℕ) → c < most_data → gives k e.row (unit c) ≡ entry k e c
   gives_unit e c d =
@@ -93,7 +84,7 @@ module _ (k : Arithmetic) (l : Lawful k) where
   settled_code p v h = l.add_below _ _ (h.below p.column p.fits) (minus_below k l _ (code_of p.equation v h))
 
   pub settled_vector : (p : Pivot) (v : List ℕ) → Vector k most_data v → Vector k most_data (settled p v)
-  settled_vector p v h = vector-set v p.column _ p.fits (settled_code p v h) h
+  settled_vector p v h = vector-set k l most_data v p.column _ (settled_code p v h) h
 
   -- what a row then gives
   gives-settled : (p : Pivot) (e : Equation) (v : List ℕ) → Vector k most_data v → gives k e.row (settled p v) ≡ k.add (gives k e.row v) (k.mul (entry k e p.column) (minus k l (gives k p.equation.row v)))

@@ -1,7 +1,9 @@
 -- Sums and differences of data vectors, and what a row gives on them.
-use Rattle.std.proofs.Common.{◌≡◌, ℕ, zero, suc, ◌+◌, ◌<◌, List, [], ◌∷◌, map, length, get_or, sym, refl, ap, ap₂, ◌∙◌, subst, arith}
+use Rattle.std.proofs.Common.{◌≡◌, ℕ, zero, suc, ◌+◌, ◌<◌, List, [], ◌∷◌, map, length, get_or, set, inl, inr, sym, refl, ap, ap₂, ◌∙◌, subst, arith}
 use Rattle.std.specs.List.{range_with_len}
 use Rattle.std.proofs.lemmas.List.FromFn.{length-map-range_with_len, get_or-map-range_with_len, fill_by_all}
+use Rattle.std.proofs.lemmas.List.{length-set, get_or-set_same, get_or-set_other}
+use Rattle.std.proofs.lemmas.Bool.{cases_eq}
 use Rattle.field.specs.Arithmetic.{Arithmetic, Lawful}
 use Rattle.field.specs.Laws.{zero_below, one_below}
 use Rattle.plan.specs.Rows.{dot, Vector}
@@ -36,6 +38,16 @@ module _ (k : Arithmetic) (l : Lawful k) where
     made_vector f low = record {
       long = length-map-range_with_len f 0 n;
       below = λ j d. subst (λ (y : ℕ). y < k.order) (sym (get_or-map-range_with_len f 0 n j j 0 d (omega arith))) (low j);
+    }
+
+    -- a vector stays one when a code is put into it
+    pub vector-set : (v : List ℕ) (j new : ℕ) → new < k.order → Vector k n v → Vector k n (set v j new)
+    vector-set v j new low h = record {
+      long = length-set v j new ∙ h.long;
+      below = λ i b. elim (cases_eq i j) [
+        | inl e ↦ subst (λ (y : ℕ). y < k.order) (sym (ap (λ i. get_or (set v j new) i 0) e ∙ get_or-set_same v j new 0 (let w = h.long in omega arith))) low
+        | inr ne ↦ subst (λ (y : ℕ). y < k.order) (sym (get_or-set_other v j i new 0 ne)) (h.below i b)
+      ];
     }
 
     module _ (v u : List ℕ) (hv : Vector k n v) (hu : Vector k n u) where

@@ -31,7 +31,7 @@ pub held_before : (x y : Cell) (w : ℕ) → y ≡ holds w → Kept x y → x �
 held_before x y w e k = ⊎_elim (λ h. sym h ∙ e) (λ h. absurd (let z : ◌≡◌ {A = ℕ} 0 1 = cc in let v : ⊥ = omega arith in v)) k
 
 -- a cell that keeps its word twice keeps it, and one that is blank by then is blank
-kept_trans : (x y z : Cell) → Kept x y → Kept y z → Kept x z
+pub kept_trans : (x y z : Cell) → Kept x y → Kept y z → Kept x z
 kept_trans x y z h k = ⊎_elim (λ i. ⊎_elim (λ j. inl (i ∙ j)) (λ j. inr (i ∙ j)) h) (λ i. inr i) k
 
 -- cell by cell, and bay by bay
@@ -44,11 +44,18 @@ decayed_trans Touched s t u h k = record {
       (k.cells b p (subst (λ n. b < n) (sym h.shape.bays) i) (subst (λ n. p < n) (sym h.shape.places) j) out);
 }
 
+-- A call that touches more cells promises less.
+pub decayed_more : (Touched More : ℕ → ℕ → Type 0) (s t : Table) → ((b p : ℕ) → Touched b p → More b p) → Decayed Touched s t → Decayed More s t
+decayed_more Touched More s t more h = record { shape = h.shape; stops = h.stops; cells = λ b p i j out. h.cells b p i j (λ touched. out (more b p touched)) }
+
 -- A call that passes each test is not refused.
 
 -- each test is false, so none refuses
 pub read_there : (b p : ℕ) (s : Table) → b < s.bays → p < s.places → refuses_read b p s ≡ None
 read_there b p s h k = let e = lt-leb s.bays b h in let f = lt-leb s.places p k in simp (e, f)
+
+pub word_there : (b p w : ℕ) (s : Table) → b < s.bays → p < s.places → w < s.limit → refuses_word b p w s ≡ None
+word_there b p w s h k l = let e = lt-leb s.bays b h in let f = lt-leb s.places p k in let g = lt-leb s.limit w l in simp (e, f, g)
 
 pub lay_there : (p : ℕ) (ws : List ℕ) (s : Table) → p < s.places → length ws ≡ s.bays → too_large s.limit ws ≡ false → refuses_lay p ws s ≡ None
 lay_there p ws s h k l = let e = lt-leb s.places p h in let f = eq-eqb (length ws) s.bays k in simp (e, f, l)

@@ -1,0 +1,203 @@
+-- A lay of an array: s is the table below before, t the table below after, ws the words of the data bays.
+use Rattle.std.proofs.Common.{◌≡◌, ℕ, ◌+◌, ◌*◌, ◌/◌, ◌%◌, ◌^◌, ◌<◌, ◌≤◌, ◌≢◌, ◌⊎◌, Bool, true, false, true≢false, not, None, Ok, Err, List, length, map, get_or, Result, sym, refl, ap, ◌∙◌, subst, inl, inr, ⊎_elim, mod-lt, arith}
+use Rattle.std.proofs.lemmas.Nat.{pow_pos, div-add-mod'}
+use Rattle.std.specs.Prelude.{MatchBool}
+use Rattle.std.specs.List.{range_with_len}
+use Rattle.std.proofs.lemmas.Bool.{cases_eq, cases_Bool, MatchBool-at_true, MatchBool-at_false}
+use Rattle.std.proofs.lemmas.List.FromFn.{length-map-range_with_len, get_or-map-range_with_len}
+use Rattle.field.specs.Arithmetic.{Arithmetic, Lawful}
+use Rattle.plan.specs.Coefficients.{Coefficients, Fitting}
+use Rattle.plan.specs.Rows.{row, dot, Vector, Tells}
+use Rattle.plan.proofs.DataRows.{dot-data}
+use Rattle.plan.proofs.Dots.{vector_codes, dot_below}
+use Rattle.field.specs.Laws.{zero_below, add-zero}
+use Rattle.plan.proofs.Ring.{add-cancel}
+use Rattle.plan.proofs.Rows.{row-codes}
+use Rattle.plan.proofs.Vectors.{plus, plus_vector, dot-plus, less, less_vector, dot-same, dot-equal}
+use Rattle.shelf.specs.declared.refusal.Refusal.{Refusal}
+use Rattle.shelf.specs.Table.{Table, Cell, blank, holds, SameShape, Decayed, Kept}
+use Rattle.shelf.specs.Calls.{Outcome, bit, Set, Laid, LayAnswer, ThisPlace, refuses_lay}
+use Rattle.shelf.proofs.Settling.{done, when_done, lay_there}
+use Rattle.shelf.proofs.Words.{lay_fit, none_large}
+use Rattle.shelf.proofs.Gathering.{bit_low}
+use Rattle.linear.specs.Sets.{TellsJust}
+use Rattle.array.specs.declared.coded.Array.{Array}
+use Rattle.array.specs.Tables.{array_table, ArrayOrder, ArrayOutcome, DoneBelow, Beneath}
+use Rattle.array.specs.Decoding.{Gives, Agrees, Allows, AllowsOne, AllowsMore, decoded, InOrder}
+use Rattle.array.specs.Changes.{row_words, LaidBelow, LayBelow}
+use Rattle.array.proofs.Adding.{gives_plus, zero_between}
+use Rattle.array.proofs.Cells.{cases_cell, not_both, holds_all, one_holds, more_blank, blank_more, tells_from}
+use Rattle.array.proofs.Meaning.{running_from}
+use Rattle.array.proofs.Shapes.{Fits, fits_place, array_shape, array_limit}
+use Rattle.array.proofs.Decays.{cells_still, order_still, array_decayed}
+
+module _ (k : Arithmetic) (l : Lawful k) (x : Coefficients) (fit : Fitting k x) (t : Table) (p j : ℕ) (d : j < x.n) (v : List ℕ) (hv : Agrees k x t p v) where
+  -- Where the filled cells of a place tell the row of a data bay, the cell of the bay is filled: the difference of two vectors that
+  -- agree gives zero on the filled rows.
+  told_filled : (set : ℕ → Bool) → ((b : ℕ) → b < x.n + x.m → set b ≡ true → t.cell b p ≢ blank) → Tells k x set j → (decoded k x t).cell j p ≢ blank
+  told_filled set filled tells empty =
+      let (a, b, (u, hu, is), (w, hw, are), differ) = blank_more k l x t p j d v hv empty in
+      differ (sym is ∙ dot-equal k l x.n u w hu.vector hw.vector (row x j) (row-codes k l x fit j)
+      (tells (less k l x.n u w) (less_vector k l x.n u w hu.vector hw.vector) (λ b few on.
+          dot-same k l x.n u w hu.vector hw.vector (row x b) (row-codes k l x fit b) (both b few on u w hu hw)))
+      ∙ are)
+    where
+      same : (b : ℕ) (u w : List ℕ) (c : Cell) → c ≢ blank → Gives k x b u c → Gives k x b w c → dot k (row x b) u ≡ dot k (row x b) w
+      same b u w blank some gu gw = absurd (some refl)
+      same b u w (holds n) some gu gw = sym gu ∙ gw
+
+      both : (b : ℕ) → b < x.n + x.m → set b ≡ true → (u w : List ℕ) → Agrees k x t p u → Agrees k x t p w → dot k (row x b) u ≡ dot k (row x b) w
+      both b few on u w hu hw = same b u w (t.cell b p) (filled b few on) (hu.gives b few) (hw.gives b few)
+
+  -- Where the cell is filled, any set with the filled cells tells the row: a vector that gives zero on them can be added.
+  filled_told : (set : ℕ → Bool) → ((b : ℕ) → b < x.n + x.m → set b ≡ false → t.cell b p ≡ blank) → (w : ℕ) → (decoded k x t).cell j p ≡ holds w → Tells k x set j
+  filled_told set clear w e z hz zeros =
+      let sum_agrees : Agrees k x t p (plus k l x.n v z) = record {
+        vector = plus_vector k l x.n v z hv.vector hz;
+        gives = λ b few. gives_sum b few z hz (zero_or_blank b few z zeros) (t.cell b p) refl (hv.gives b few);
+      } in
+      let same = holds_all k l x t p j d w e v hv ∙ sym (holds_all k l x t p j d w e (plus k l x.n v z) sum_agrees) in
+      zero_between k l x fit j v z hv.vector hz same
+    where
+      zero_or_blank : (b : ℕ) → b < x.n + x.m → (z : List ℕ) → ((b : ℕ) → b < x.n + x.m → set b ≡ true → dot k (row x b) z ≡ 0) → (dot k (row x b) z ≡ 0) ⊎ (t.cell b p ≡ blank)
+      zero_or_blank b few z zeros = ⊎_elim (λ on. inl (zeros b few on)) (λ off. inr (clear b few off)) (cases_Bool (set b))
+
+      gives_sum : (b : ℕ) → b < x.n + x.m → (z : List ℕ) → Vector k x.n z → (dot k (row x b) z ≡ 0) ⊎ (t.cell b p ≡ blank) → (c : Cell) → t.cell b p ≡ c → Gives k x b v c → Gives k x b (plus k l x.n v z) c
+      gives_sum b few z hz known blank is gave = tt
+      gives_sum b few z hz known (holds w) is gave =
+          ⊎_elim (λ none. gives_plus k l x fit b v z hv.vector hz w gave none) (λ empty. absurd (not_both (t.cell b p) w empty is)) known
+
+-- What a lay below did, seen from the array.
+module _ (k : Arithmetic) (l : Lawful k) (x : Coefficients) (fit : Fitting k x) (s t : Table) (p : ℕ) (ws : List ℕ) (hw : Vector k x.n ws) (low bits : ℕ) (bays : s.bays ≡ x.n + x.m) (h : Laid p (row_words k x ws) s t low) (told : (j : ℕ) → j < x.n → MatchBool (bit bits j) (Tells k x (bit low) j) (Tells k x (bit low) j → ⊥)) (others : bits < 2 ^ x.n) where
+  -- The words agree with the place:
+  gives_set : (b w : ℕ) (c : Cell) → w ≡ dot k (row x b) ws → Set w c → Gives k x b ws c
+  gives_set b w c is set = ⊎_elim (λ e. subst (Gives k x b ws) (sym e) is) (λ e. subst (Gives k x b ws) (sym e) tt) set
+
+  words_agree : Agrees k x t p ws
+  words_agree = record {
+    vector = hw;
+    gives = λ b few.
+        gives_set b (get_or (row_words k x ws) b 0) (t.cell b p) (get_or-map-range_with_len (λ b. dot k (row x b) ws) 0 (x.n + x.m) b b 0 few (omega arith)) (h.set b (omega arith));
+  }
+
+  -- a cell of the array has its word or is blank,
+  word_set : (j : ℕ) → j < x.n → Set (get_or ws j 0) ((decoded k x t).cell j p)
+  word_set j d = elim (cases_cell ((decoded k x t).cell j p)) [
+    | inl e ↦ inr e
+    | inr (w, e) ↦ inl (e ∙ ap holds (sym (holds_all k l x t p j d w e ws words_agree) ∙ dot-data k l x j ws d hw))
+  ]
+
+  -- it is filled where its bay runs, since running bays below have filled cells,
+  running_filled : (j : ℕ) → j < x.n → (decoded k x t).running j ≡ true → (decoded k x t).cell j p ≢ blank
+  running_filled j d on = told_filled k l x fit t p j d ws words_agree t.running (λ b few runs. h.filled b (omega arith) runs) (running_from k l x t j on)
+
+  -- and it is blank where its bit is clear, since the bays with bits set below would tell its row.
+  clear_blank : (j : ℕ) → j < x.n → bit bits j ≡ false → (decoded k x t).cell j p ≡ blank
+  clear_blank j d off = elim (cases_cell ((decoded k x t).cell j p)) [
+    | inl e ↦ e
+    | inr (w, e) ↦
+        absurd (MatchBool-at_false _ _ off (told j d) (filled_told k l x fit t p j d ws words_agree (bit low) (λ b few clear. h.clear b (omega arith) clear) w e))
+  ]
+
+  module _ (own : (decoded k x s).bays ≡ x.n) (ordered : InOrder k x s) where
+    other_places : (j p' : ℕ) → j < (decoded k x s).bays → p' < (decoded k x s).places → (ThisPlace p j p' → ⊥) → Kept ((decoded k x s).cell j p') ((decoded k x t).cell j p')
+    other_places j p' d there out = cells_still k l x (ThisPlace p) (ThisPlace p) s t h.rest ordered j p' d there (λ b e. out e)
+
+    order_after : InOrder k x t
+    order_after p' there = elim (cases_eq p' p) [
+      | inl same ↦ subst (λ p. (v : List ℕ) × Agrees k x t p v) (sym same) (ws, words_agree)
+      | inr away ↦ order_still k l x (ThisPlace p) (ThisPlace p) s t h.rest ordered p' (let e = (array_shape k x s t h.rest.shape).places in omega arith) (λ b e. away e)
+    ]
+
+    pub lays : InOrder k x t × Laid p ws (decoded k x s) (decoded k x t) bits
+    lays = (
+      order_after,
+      record {
+        rest = array_decayed k l x (ThisPlace p) (ThisPlace p) s t h.rest other_places;
+        set = λ j d. word_set j (omega (arith, own));
+        filled = λ j d on. running_filled j (omega (arith, own)) on;
+        clear = λ j d off. clear_blank j (omega (arith, own)) off;
+        others = subst (λ n. bits < 2 ^ n) (sym own) others;
+      },
+    )
+
+module _ {S P : Type 0} (table : S → Table) (sound : S → Type 0) (k : Arithmetic) (l : Lawful k) (coefficients : P → Coefficients) (before : Array S P) (fit : Fitting k (coefficients before.plan)) (p : ℕ) (ws : List ℕ) (none : refuses_lay p ws (array_table table k coefficients before) ≡ None) where
+  abbrev x : Coefficients
+  x = coefficients before.plan
+
+  abbrev s : Table
+  s = table before.below
+
+  abbrev after : S → Array S P
+  after below = record { below = below; plan = before.plan }
+
+  -- What is known of a lay that is not refused: its words are a data vector,
+  pub words_vector : Vector k x.n ws
+  words_vector =
+      let h = lay_fit _ _ _ p ws none in
+      let f = fits_place k x s p h.room in
+      record {
+        long = h.count ∙ f.own_bays;
+        below = λ j d. subst (λ n. get_or ws j 0 < n) (array_limit k x s) (h.low j (let e = h.count in let i = f.own_bays in omega arith));
+      }
+
+  fit_here : Fits k x s
+  fit_here = fits_place k x s p (lay_fit _ _ _ p ws none).room
+
+  -- and the lay below is not refused either.
+  below_none : refuses_lay p (row_words k x ws) s ≡ None
+  below_none =
+      let here = (lay_fit _ _ _ p ws none).room in
+      let f = fit_here in
+      let long = length-map-range_with_len (λ b. dot k (row x b) ws) 0 (x.n + x.m) in
+      lay_there p (row_words k x ws) s (let e = f.own_places in omega arith) (long ∙ sym f.bays)
+      (none_large s.limit (row_words k x ws) (λ b d.
+          let is = get_or-map-range_with_len (λ b. dot k (row x b) ws) 0 (x.n + x.m) b b 0 (omega arith) (omega arith) in
+          let code = dot_below k l (row x b) ws (row-codes k l x fit b) (vector_codes k l x.n ws words_vector) in
+          let high = f.limit in
+          omega arith))
+
+  module _ (below : S) where
+    module _ (r : Result ℕ Refusal) (same : SameShape s (table below)) (kept : ArrayOrder table sound k coefficients before → ArrayOrder table sound k coefficients (after below) × LayAnswer p ws (decoded k x s) (decoded k x (table below)) r) where
+      promised : ArrayOutcome table sound k coefficients before (after below) (refuses_lay p ws) (LayAnswer p ws) r
+      promised =
+          done (array_table table k coefficients before) (array_table table k coefficients (after below)) (ArrayOrder table sound k coefficients before) (ArrayOrder table sound k coefficients (after below)) (refuses_lay p ws (array_table table k coefficients before)) (LayAnswer p ws) r none
+          (array_shape k x s (table below) same) kept
+
+    beneath : (r : Result ℕ Refusal) → (ArrayOrder table sound k coefficients before → LayBelow p ws r k x s (table below)) → Beneath table sound k coefficients before (after below) (refuses_lay p ws) (LayBelow p ws r)
+    beneath r changes = (refl, subst (λ o. DoneBelow o before (after below) (ArrayOrder table sound k coefficients before → LayBelow p ws r k x s (table below))) (sym none) changes)
+
+    -- what the lay below promises
+    module _ (r : Result ℕ Refusal) (lay : Outcome table sound before.below below (refuses_lay p (row_words k x ws)) (LayAnswer p (row_words k x ws)) r) where
+      laid_so : ArrayOrder table sound k coefficients before → sound below × LayAnswer p (row_words k x ws) s (table below) r
+      laid_so ordered =
+          when_done s (table below) (sound before.below) (sound below) (refuses_lay p (row_words k x ws) s) (LayAnswer p (row_words k x ws)) r below_none lay ordered.0
+
+    -- it is never refused
+    pub refused_promised : (e : Refusal) → Outcome table sound before.below below (refuses_lay p (row_words k x ws)) (LayAnswer p (row_words k x ws)) (Err e) → (r : Result ℕ Refusal) → ArrayOutcome table sound k coefficients before (after below) (refuses_lay p ws) (LayAnswer p ws) r
+    refused_promised e lay r = promised r lay.0 (λ ordered. absurd (laid_so (Err e) lay ordered).1)
+
+    pub refused_below : (e : Refusal) → Outcome table sound before.below below (refuses_lay p (row_words k x ws)) (LayAnswer p (row_words k x ws)) (Err e) → (r : Result ℕ Refusal) → Beneath table sound k coefficients before (after below) (refuses_lay p ws) (LayBelow p ws r)
+    refused_below e lay r = beneath r (λ ordered. absurd (laid_so (Err e) lay ordered).1)
+
+    -- the bits of the data bays that are told
+    module _ (low all bits : ℕ) (lay : Outcome table sound before.below below (refuses_lay p (row_words k x ws)) (LayAnswer p (row_words k x ws)) (Ok low)) (told : TellsJust k x (bit low) all) (is : bits ≡ all % 2 ^ x.n) where
+      few_bits : bits < 2 ^ x.n
+      few_bits = subst (λ n. n < 2 ^ x.n) (sym is) (mod-lt all (pow_pos x.n))
+
+      same_bit : (j : ℕ) → j < x.n → bit bits j ≡ bit all j
+      same_bit j d =
+          ap (λ n. bit n j) is ∙ sym (bit_low (all / 2 ^ x.n) x.n (all % 2 ^ x.n) j d)
+          ∙ ap (λ n. bit n j) (div-add-mod' all (2 ^ x.n))
+
+      data_told : (j : ℕ) → j < x.n → MatchBool (bit bits j) (Tells k x (bit low) j) (Tells k x (bit low) j → ⊥)
+      data_told j d = subst (λ b. MatchBool b (Tells k x (bit low) j) (Tells k x (bit low) j → ⊥)) (sym (same_bit j d)) (told j (omega arith))
+
+      pub lay_promised : ArrayOutcome table sound k coefficients before (after below) (refuses_lay p ws) (LayAnswer p ws) (Ok bits)
+      lay_promised = promised (Ok bits) lay.0 (λ ordered.
+          let (last, laid) = laid_so (Ok low) lay ordered in
+          let (order, laid) = lays k l x fit s (table below) p ws words_vector low bits fit_here.bays laid data_told few_bits fit_here.own_bays ordered.1 in
+          ((last, order), laid))
+
+      pub lay_below : Beneath table sound k coefficients before (after below) (refuses_lay p ws) (LayBelow p ws (Ok bits))
+      lay_below = beneath (Ok bits) (λ ordered. record { low = low; laid = (laid_so (Ok low) lay ordered).1; told = data_told; others = few_bits })
