@@ -1,0 +1,4 @@
+pub mod Backing
+pub mod Shelfwise
+pub mod Chains
+pub mod Arraywise

@@ -1,0 +1,5 @@
+pub mod Book
+pub mod Laws
+pub mod History
+pub mod Turns
+pub mod Runs

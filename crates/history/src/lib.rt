@@ -1,0 +1,9 @@
+// Histories: lists of calls made in turn, and the law that their answers keep.
+#![tactic(auto)]
+
+mod call;
+mod runs;
+mod turn;
+
+pub use crate::call::{Answer, Call};
+pub use crate::runs::{keep, run};
