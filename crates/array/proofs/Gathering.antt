@@ -1,13 +1,13 @@
 -- The words of a place, one bay read more at a time.
-use Rattle.std.proofs.Common.{◌≡◌, ℕ, ◌+◌, ◌<◌, ◌≤◌, ◌≢◌, ◌⊎◌, List, [], ◌∷◌, ◌++◌, length, None, Ok, Err, Result, sym, refl, ap, ◌∙◌, subst, inl, inr, ⊎_elim, arith}
+use Rattle.std.proofs.Common.{◌≡◌, ℕ, ◌+◌, ◌<◌, ◌≤◌, ◌≢◌, List, [], ◌∷◌, ◌++◌, length, Ok, Err, Result, sym, ◌∙◌, subst, inl, inr, ⊎_elim, arith}
 use Rattle.std.specs.List.{Contains}
 use Rattle.std.proofs.lemmas.Bool.{cases_lt}
 use Rattle.std.proofs.lemmas.List.{length_push}
 use Rattle.std.proofs.lemmas.List.Elements.{Contains-push, Contains-push_cases, Contains-append_left}
 use Rattle.plan.specs.Coefficients.{Coefficients}
 use Rattle.shelf.specs.declared.refusal.Refusal.{Refusal}
-use Rattle.shelf.specs.Table.{Table, Cell, blank, holds, SameShape, Decayed}
-use Rattle.shelf.specs.Calls.{Outcome, Read, ReadAnswer, refuses_read, NoCell}
+use Rattle.shelf.specs.Table.{Table, blank, holds}
+use Rattle.shelf.specs.Calls.{Outcome, Read, refuses_read, NoCell}
 use Rattle.shelf.proofs.Settling.{same_shape, shape_trans, undecayed, decayed_trans, held_before, read_there, when_done}
 use Rattle.linear.specs.declared.equation.Equation.{Equation}
 use Rattle.array.specs.Finding.{bay_word, adding, Gathered, Gathers}
@@ -89,8 +89,12 @@ module _ {Self : Type 0} (table : Self → Table) (sound : Self → Type 0) (x :
   module _ (n : ℕ) (s t : Self) (es : List Equation) (h : Gathers table sound x p without n s t es) where
     -- the bay that is left out
     pub next_skip : n ≡ without → Gathers table sound x p without (n + 1) s t es
-    next_skip is = (h.0, let few = h.1 in omega arith, λ ordered few there.
-        let (after, all) = h.2 ordered (omega arith) there in (after, gathered_out x p without n (table s) (table t) es all is))
+    next_skip is = (
+      h.0,
+      let few = h.1 in omega arith,
+      λ ordered few there.
+          let (after, all) = h.2 ordered (omega arith) there in (after, gathered_out x p without n (table s) (table t) es all is),
+    )
 
     -- another bay
     pub next_read : (u : Self) (r : Result ℕ Refusal) (es' : List Equation) → es' ≡ adding x n r es → Outcome table sound t u (refuses_read n p) (Read n p) r → Gathers table sound x p without (n + 1) s u es'

@@ -1,21 +1,18 @@
 -- A lay of an array: s is the table below before, t the table below after, ws the words of the data bays.
-use Rattle.std.proofs.Common.{◌≡◌, ℕ, ◌+◌, ◌*◌, ◌/◌, ◌%◌, ◌^◌, ◌<◌, ◌≤◌, ◌≢◌, ◌⊎◌, Bool, true, false, true≢false, not, None, Ok, Err, List, length, map, get_or, Result, sym, refl, ap, ◌∙◌, subst, inl, inr, ⊎_elim, mod-lt, arith}
+use Rattle.std.proofs.Common.{◌≡◌, ℕ, ◌+◌, ◌/◌, ◌%◌, ◌^◌, ◌<◌, ◌≢◌, ◌⊎◌, Bool, true, false, None, Ok, Err, List, get_or, Result, sym, refl, ap, ◌∙◌, subst, inl, inr, ⊎_elim, mod-lt, arith}
 use Rattle.std.proofs.lemmas.Nat.{pow_pos, div-add-mod'}
 use Rattle.std.specs.Prelude.{MatchBool}
-use Rattle.std.specs.List.{range_with_len}
-use Rattle.std.proofs.lemmas.Bool.{cases_eq, cases_Bool, MatchBool-at_true, MatchBool-at_false}
+use Rattle.std.proofs.lemmas.Bool.{cases_eq, cases_Bool, MatchBool-at_false}
 use Rattle.std.proofs.lemmas.List.FromFn.{length-map-range_with_len, get_or-map-range_with_len}
 use Rattle.field.specs.Arithmetic.{Arithmetic, Lawful}
 use Rattle.plan.specs.Coefficients.{Coefficients, Fitting}
 use Rattle.plan.specs.Rows.{row, dot, Vector, Tells}
 use Rattle.plan.proofs.DataRows.{dot-data}
 use Rattle.plan.proofs.Dots.{vector_codes, dot_below}
-use Rattle.field.specs.Laws.{zero_below, add-zero}
-use Rattle.plan.proofs.Ring.{add-cancel}
 use Rattle.plan.proofs.Rows.{row-codes}
-use Rattle.plan.proofs.Vectors.{plus, plus_vector, dot-plus, less, less_vector, dot-same, dot-equal}
+use Rattle.plan.proofs.Vectors.{plus, plus_vector, less, less_vector, dot-same, dot-equal}
 use Rattle.shelf.specs.declared.refusal.Refusal.{Refusal}
-use Rattle.shelf.specs.Table.{Table, Cell, blank, holds, SameShape, Decayed, Kept}
+use Rattle.shelf.specs.Table.{Table, Cell, blank, holds, SameShape, Kept}
 use Rattle.shelf.specs.Calls.{Outcome, bit, Set, Laid, LayAnswer, ThisPlace, refuses_lay}
 use Rattle.shelf.proofs.Settling.{done, when_done, lay_there}
 use Rattle.shelf.proofs.Words.{lay_fit, none_large}
@@ -23,10 +20,10 @@ use Rattle.shelf.proofs.Gathering.{bit_low}
 use Rattle.linear.specs.Sets.{TellsJust}
 use Rattle.array.specs.declared.coded.Array.{Array}
 use Rattle.array.specs.Tables.{array_table, ArrayOrder, ArrayOutcome, DoneBelow, Beneath}
-use Rattle.array.specs.Decoding.{Gives, Agrees, Allows, AllowsOne, AllowsMore, decoded, InOrder}
-use Rattle.array.specs.Changes.{row_words, LaidBelow, LayBelow}
+use Rattle.array.specs.Decoding.{Gives, Agrees, decoded, InOrder}
+use Rattle.array.specs.Changes.{row_words, LayBelow}
 use Rattle.array.proofs.Adding.{gives_plus, zero_between}
-use Rattle.array.proofs.Cells.{cases_cell, not_both, holds_all, one_holds, more_blank, blank_more, tells_from}
+use Rattle.array.proofs.Cells.{cases_cell, not_both, holds_all, blank_more}
 use Rattle.array.proofs.Meaning.{running_from}
 use Rattle.array.proofs.Shapes.{Fits, fits_place, array_shape, array_limit}
 use Rattle.array.proofs.Decays.{cells_still, order_still, array_decayed}
@@ -39,7 +36,7 @@ module _ (k : Arithmetic) (l : Lawful k) (x : Coefficients) (fit : Fitting k x) 
       let (a, b, (u, hu, is), (w, hw, are), differ) = blank_more k l x t p j d v hv empty in
       differ (sym is ∙ dot-equal k l x.n u w hu.vector hw.vector (row x j) (row-codes k l x fit j)
       (tells (less k l x.n u w) (less_vector k l x.n u w hu.vector hw.vector) (λ b few on.
-          dot-same k l x.n u w hu.vector hw.vector (row x b) (row-codes k l x fit b) (both b few on u w hu hw)))
+      dot-same k l x.n u w hu.vector hw.vector (row x b) (row-codes k l x fit b) (both b few on u w hu hw)))
       ∙ are)
     where
       same : (b : ℕ) (u w : List ℕ) (c : Cell) → c ≢ blank → Gives k x b u c → Gives k x b w c → dot k (row x b) u ≡ dot k (row x b) w
@@ -152,10 +149,10 @@ module _ {S P : Type 0} (table : S → Table) (sound : S → Type 0) (k : Arithm
       let long = length-map-range_with_len (λ b. dot k (row x b) ws) 0 (x.n + x.m) in
       lay_there p (row_words k x ws) s (let e = f.own_places in omega arith) (long ∙ sym f.bays)
       (none_large s.limit (row_words k x ws) (λ b d.
-          let is = get_or-map-range_with_len (λ b. dot k (row x b) ws) 0 (x.n + x.m) b b 0 (omega arith) (omega arith) in
-          let code = dot_below k l (row x b) ws (row-codes k l x fit b) (vector_codes k l x.n ws words_vector) in
-          let high = f.limit in
-          omega arith))
+      let is = get_or-map-range_with_len (λ b. dot k (row x b) ws) 0 (x.n + x.m) b b 0 (omega arith) (omega arith) in
+      let code = dot_below k l (row x b) ws (row-codes k l x fit b) (vector_codes k l x.n ws words_vector) in
+      let high = f.limit in
+      omega arith))
 
   module _ (below : S) where
     module _ (r : Result ℕ Refusal) (same : SameShape s (table below)) (kept : ArrayOrder table sound k coefficients before → ArrayOrder table sound k coefficients (after below) × LayAnswer p ws (decoded k x s) (decoded k x (table below)) r) where

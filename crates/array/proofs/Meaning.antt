@@ -1,5 +1,5 @@
 -- What the cells and bays of an array in order mean, and that a new array is in order.
-use Rattle.std.proofs.Common.{◌≡◌, ℕ, ◌+◌, ◌<◌, ◌≤◌, true, false, List, length, get_or, set, replicate, sym, refl, ap, ◌∙◌, subst, inl, inr, ⊎_elim, arith}
+use Rattle.std.proofs.Common.{◌≡◌, ℕ, ◌<◌, ◌≤◌, true, false, List, length, set, replicate, sym, refl, ◌∙◌, subst, inl, inr, arith}
 use Rattle.std.proofs.lemmas.Bool.{cases_Bool}
 use Rattle.std.proofs.lemmas.List.{length-replicate, get_or-replicate, get_or-set_same}
 use Rattle.field.specs.Arithmetic.{Arithmetic, Lawful}
@@ -13,7 +13,7 @@ use Rattle.shelf.specs.Table.{Table, Cell, blank, holds, Shaped, AllBlank, WordB
 use Rattle.shelf.specs.Table as shelf_table
 use Rattle.array.specs.Decoding.{matched, Gives, Agrees, decoded, InOrder, Means}
 use Rattle.array.proofs.Cells.{holds_one, one_holds, blank_more, more_blank, held_below, tells_from, tells_to}
-use Rattle.array.proofs.Shapes.{fits_place, fits_bay, fit_bays, fit_places, unfit_bays, unfit_places, array_limit}
+use Rattle.array.proofs.Shapes.{fits_place, fit_bays, fit_places, unfit_bays, unfit_places, array_limit}
 
 module _ (k : Arithmetic) (l : Lawful k) (x : Coefficients) (t : Table) where
   pub running_from : (j : ℕ) → (decoded k x t).running j ≡ true → Tells k x t.running j

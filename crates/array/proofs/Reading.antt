@@ -1,11 +1,11 @@
 -- A read of an array: s is the table below before, t the table below after.
-use Rattle.std.proofs.Common.{◌≡◌, ℕ, ◌+◌, ◌<◌, ◌≤◌, None, Ok, Err, Result, sym, refl, ap, ◌∙◌, subst, arith}
+use Rattle.std.proofs.Common.{◌≡◌, ℕ, ◌<◌, None, Ok, Err, Result, sym, refl, subst, arith}
 use Rattle.std.specs.Prelude.{⊤}
 use Rattle.field.specs.Arithmetic.{Arithmetic, Lawful}
-use Rattle.plan.specs.Coefficients.{Coefficients, Fitting}
+use Rattle.plan.specs.Coefficients.{Coefficients}
 use Rattle.plan.specs.Rows.{row, dot}
 use Rattle.shelf.specs.declared.refusal.Refusal.{Refusal}
-use Rattle.shelf.specs.Table.{Table, SameShape}
+use Rattle.shelf.specs.Table.{Table}
 use Rattle.shelf.specs.Calls.{Read, ReadAnswer, NoCell, refuses_read}
 use Rattle.shelf.proofs.Settling.{done}
 use Rattle.shelf.proofs.Words.{cell_fit}
@@ -59,9 +59,9 @@ module _ {S P : Type 0} (table : S → Table) (sound : S → Type 0) (k : Arithm
         done (array_table table k coefficients before) (array_table table k coefficients after) (ArrayOrder table sound k coefficients before) (ArrayOrder table sound k coefficients after) (refuses_read j p (array_table table k coefficients before)) (Read j p) r none
         (array_shape k x (table before.below) (table below) found.0)
         (λ ordered.
-            let (sound_after, is) = found_so ordered in
-            let (order_after, read) = reads k l x (table before.below) (table below) j p there.0 there.1 ordered.1 r is in
-            ((sound_after, order_after), read))
+        let (sound_after, is) = found_so ordered in
+        let (order_after, read) = reads k l x (table before.below) (table below) j p there.0 there.1 ordered.1 r is in
+        ((sound_after, order_after), read))
 
     pub read_below : Beneath table sound k coefficients before after (refuses_read j p) ReadBelow
     read_below = (refl, subst (λ o. DoneBelow o before after (ArrayOrder table sound k coefficients before → ReadBelow k x (table before.below) (table below))) (sym none) (λ ordered. (found_so ordered).1.rest))

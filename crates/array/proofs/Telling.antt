@@ -1,29 +1,27 @@
 -- What the words of a place tell of a bay.
-use Rattle.std.proofs.Common.{◌≡◌, ℕ, ◌+◌, ◌%◌, ◌<◌, ◌≤◌, ◌≢◌, true, List, take, get_or, Option, Some, None, Ok, Err, Result, sym, refl, ap, ◌∙◌, subst, inl, inr, ⊎_elim, mod-eq_of_lt, arith}
-use Rattle.std.specs.List.{All, Contains}
+use Rattle.std.proofs.Common.{◌≡◌, ℕ, ◌+◌, ◌<◌, ◌≢◌, List, take, get_or, Option, Some, None, Ok, Err, Result, sym, refl, ◌∙◌, subst, mod-eq_of_lt, arith}
+use Rattle.std.specs.List.{All}
 use Rattle.std.specs.Prelude.{⊤}
 use Rattle.std.specs.Option.{ok_or}
 use Rattle.std.proofs.lemmas.List.Elements.{All-contains, Contains-get_or}
 use Rattle.field.specs.Arithmetic.{Arithmetic, Lawful}
-use Rattle.field.specs.Laws.{zero_below, add-zero}
 use Rattle.plan.specs.Bounds.{most_data}
 use Rattle.plan.specs.Coefficients.{Coefficients, Fitting}
 use Rattle.plan.specs.Rows.{row, whole_row, dot, Vector}
 use Rattle.plan.proofs.Dots.{vector_codes, dot_below}
 use Rattle.plan.proofs.Padding.{front_vector, padded, padded_vector}
-use Rattle.plan.proofs.Ring.{add-cancel}
 use Rattle.plan.proofs.Rows.{row-codes}
-use Rattle.plan.proofs.Vectors.{plus, plus_vector, dot-plus}
+use Rattle.plan.proofs.Vectors.{plus, plus_vector}
 use Rattle.shelf.specs.declared.refusal.Refusal.{Refusal}
 use Rattle.shelf.specs.declared.refusal.Refusal.TheVariants.{Lost}
-use Rattle.shelf.specs.Table.{Table, Cell, blank, holds, Decayed}
+use Rattle.shelf.specs.Table.{Table, Cell, blank, holds}
 use Rattle.shelf.specs.Calls.{Outcome, Read, refuses_read, NoCell}
 use Rattle.shelf.proofs.Settling.{shape_trans, decayed_trans, blank_stays, read_there, when_done}
 use Rattle.linear.specs.declared.equation.Equation.{Equation}
 use Rattle.linear.specs.Equations.{gives, Satisfies, Told, Open, Verdict}
 use Rattle.linear.proofs.Telling.{gives_front, gives_padded}
-use Rattle.array.specs.Decoding.{matched, Gives, Agrees, Allows, AllowsMore}
-use Rattle.array.specs.Finding.{bay_word, Gathered, Gathers, WordAnswer, Found, Finds}
+use Rattle.array.specs.Decoding.{Gives, Agrees, Allows, AllowsMore}
+use Rattle.array.specs.Finding.{bay_word, Gathered, Gathers, WordAnswer, Finds}
 use Rattle.array.proofs.Adding.{gives_plus, zero_between}
 use Rattle.array.proofs.Cells.{not_both}
 use Rattle.array.proofs.Shapes.{matched_bays, matched_same}
@@ -89,33 +87,42 @@ module _ (k : Arithmetic) (l : Lawful k) (x : Coefficients) (fit : Fitting k x) 
 module _ {Self : Type 0} (table : Self → Table) (sound : Self → Type 0) (k : Arithmetic) (l : Lawful k) (x : Coefficients) (fit : Fitting k x) (b p : ℕ) (s t : Self) where
   -- The other cells of the place tell the word of a blank one, or lose it.
   pub told_found : (es : List Equation) (target : List ℕ) (o : Option ℕ) (r : Result ℕ Refusal) → Gathers table sound x p b (x.n + x.m) s t es → target ≡ whole_row x b → Verdict k es target o → r ≡ ok_or o Lost → Finds table sound k x b p s t ((table s).cell b p ≡ blank) r
-  told_found es target o r all at verdict is = (all.0, λ ordered match bay place empty.
-      let (after, gathered) = all.2 ordered (let e = matched_bays k x (table s) match in omega arith) place in
-      let blank_after : (table t).cell b p ≡ blank = blank_stays ((table s).cell b p) ((table t).cell b p) empty (gathered.rest.cells b p bay place (λ z. z)) in (
-        after,
-        record {
-          rest = gathered.rest;
-          answer = subst (WordAnswer k x b p (table s) (table t)) (sym is)
-              (verdict_answers k l x fit p b (table s) (table t) es gathered blank_after o (subst (λ row. Verdict k es row o) at verdict));
-        },
-      ))
+  told_found es target o r all at verdict is = (
+    all.0,
+    λ ordered match bay place empty.
+        let (after, gathered) = all.2 ordered (let e = matched_bays k x (table s) match in omega arith) place in
+        let blank_after : (table t).cell b p ≡ blank = blank_stays ((table s).cell b p) ((table t).cell b p) empty (gathered.rest.cells b p bay place (λ z. z)) in (
+          after,
+          record {
+            rest = gathered.rest;
+            answer = subst (WordAnswer k x b p (table s) (table t)) (sym is)
+                (verdict_answers k l x fit p b (table s) (table t) es gathered blank_after o (subst (λ row. Verdict k es row o) at verdict));
+          },
+        ),
+  )
 
   -- A cell that gave its word allows no other.
   own_word : (w : ℕ) → Read b p (table s) (table t) (Ok w) → b < x.n + x.m → (u : ℕ) → Allows k x (table s) b p u → u ≡ w
   own_word w read few u (v, hv, is) = sym is ∙ sym (let gave : w ≡ dot k (row x b) v = subst (Gives k x b v) read.answer (hv.gives b few) in gave)
 
   pub own_found : (w : ℕ) → Outcome table sound s t (refuses_read b p) (Read b p) (Ok w) → Finds table sound k x b p s t ⊤ (Ok w)
-  own_found w read = (read.0, λ ordered match bay place _.
-      let (after, done) = when_done (table s) (table t) (sound s) (sound t) (refuses_read b p (table s)) (Read b p) (Ok w) (read_there b p (table s) bay place) read ordered in
-      (after, record { rest = done.rest; answer = own_word w done (let e = matched_bays k x (table s) match in omega arith) }))
+  own_found w read = (
+    read.0,
+    λ ordered match bay place _.
+        let (after, done) = when_done (table s) (table t) (sound s) (sound t) (refuses_read b p (table s)) (Read b p) (Ok w) (read_there b p (table s) bay place) read ordered in
+        (after, record { rest = done.rest; answer = own_word w done (let e = matched_bays k x (table s) match in omega arith) }),
+  )
 
   -- Where it gave none it is blank, and the other cells answer for it.
   pub other_found : (u : Self) (e : Refusal) (r : Result ℕ Refusal) → Outcome table sound s t (refuses_read b p) (Read b p) (Err e) → Finds table sound k x b p t u ((table t).cell b p ≡ blank) r → Finds table sound k x b p s u ⊤ r
-  other_found u e r read others = (shape_trans (table s) (table t) (table u) read.0 others.0, λ ordered match bay place _.
-      let (after, done) = when_done (table s) (table t) (sound s) (sound t) (refuses_read b p (table s)) (Read b p) (Err e) (read_there b p (table s) bay place) read ordered in
-      let (last, found) = others.1 after (matched_same k x (table s) (table t) read.0 ∙ match) (let e = read.0.bays in omega arith) (let e = read.0.places in omega arith) done.answer.1 in
-      let kept = kept_place k x NoCell (table s) (table t) p done.rest (matched_bays k x (table s) match) place (λ b z. z) in
-      (last, record { rest = decayed_trans NoCell (table s) (table t) (table u) done.rest found.rest; answer = earlier kept r found.answer }))
+  other_found u e r read others = (
+    shape_trans (table s) (table t) (table u) read.0 others.0,
+    λ ordered match bay place _.
+        let (after, done) = when_done (table s) (table t) (sound s) (sound t) (refuses_read b p (table s)) (Read b p) (Err e) (read_there b p (table s) bay place) read ordered in
+        let (last, found) = others.1 after (matched_same k x (table s) (table t) read.0 ∙ match) (let e = read.0.bays in omega arith) (let e = read.0.places in omega arith) done.answer.1 in
+        let kept = kept_place k x NoCell (table s) (table t) p done.rest (matched_bays k x (table s) match) place (λ b z. z) in
+        (last, record { rest = decayed_trans NoCell (table s) (table t) (table u) done.rest found.rest; answer = earlier kept r found.answer }),
+  )
     where
       earlier : KeptPlace k x (table s) (table t) p → (r : Result ℕ Refusal) → WordAnswer k x b p (table t) (table u) r → WordAnswer k x b p (table s) (table u) r
       earlier kept (Ok w) one = λ v allowed. one v (allows_still k x (table s) (table t) p kept b v allowed)

@@ -1,5 +1,5 @@
 -- A write of an array whose old word is known: s is the table below before, t the table below after.
-use Rattle.std.proofs.Common.{◌≡◌, ℕ, ◌+◌, ◌<◌, ◌≤◌, ◌≢◌, true, None, Ok, Err, List, length, get_or, set, Result, sym, refl, ap, ◌∙◌, subst, inl, inr, arith}
+use Rattle.std.proofs.Common.{◌≡◌, ℕ, ◌+◌, ◌<◌, ◌≢◌, true, None, Ok, Err, List, get_or, set, Result, sym, refl, ap, ◌∙◌, subst, inl, inr, arith}
 use Rattle.std.specs.Prelude.{⊤}
 use Rattle.std.proofs.lemmas.Bool.{cases_eq}
 use Rattle.std.proofs.lemmas.List.{get_or-set_same, get_or-set_other}
@@ -18,7 +18,7 @@ use Rattle.shelf.proofs.Settling.{done, shape_trans, decayed_trans, decayed_more
 use Rattle.shelf.proofs.Words.{word_fit}
 use Rattle.array.specs.declared.coded.Array.{Array}
 use Rattle.array.specs.Decoding.{matched, Agrees, AllowsOne, decoded, InOrder}
-use Rattle.array.specs.Finding.{WordAnswer, Found, Finds}
+use Rattle.array.specs.Finding.{Found, Finds}
 use Rattle.array.specs.Moving.{Rewritten, Rewrites, rewritten}
 use Rattle.array.specs.Tables.{array_table, ArrayOrder, ArrayOutcome, DoneBelow, Beneath}
 use Rattle.array.specs.Changes.{WriteBelow}
@@ -157,9 +157,9 @@ module _ {S P : Type 0} (table : S → Table) (sound : S → Type 0) (k : Arithm
   lost_promised below e found =
       promised below (Err e) found.0
       (λ ordered.
-          let (sound_after, is) = found_so below (Err e) found ordered in
-          let (order, wrote) = lost_write k l x s (table below) j p new known.here known.bay ordered.1 e is in
-          ((sound_after, order), wrote))
+      let (sound_after, is) = found_so below (Err e) found ordered in
+      let (order, wrote) = lost_write k l x s (table below) j p new known.here known.bay ordered.1 e is in
+      ((sound_after, order), wrote))
 
   pub lost_below : (below : S) (e : Refusal) → Finds table sound k x j p before.below below ⊤ (Err e) → Beneath table sound k coefficients before (after below) (refuses_word j p new) (WriteBelow j p new (Err e))
   lost_below below e found = beneath below (Err e) (λ ordered. (found_so below (Err e) found ordered).1.rest)
@@ -182,9 +182,9 @@ module _ {S P : Type 0} (table : S → Table) (sound : S → Type 0) (k : Arithm
     kept_promised =
         promised below (Ok tt) (shape_trans s (table middle) (table below) found.0 rewrites.0)
         (λ ordered.
-            let (last, one, w) = wrote_so ordered in
-            let (order, wrote) = writes k l x fit s (table below) j p old new known.bay known.low one w ordered.1 in
-            ((last, order), wrote))
+        let (last, one, w) = wrote_so ordered in
+        let (order, wrote) = writes k l x fit s (table below) j p old new known.bay known.low one w ordered.1 in
+        ((last, order), wrote))
 
     pub kept_below : Beneath table sound k coefficients before (after below) (refuses_word j p new) (WriteBelow j p new (Ok tt))
     kept_below = beneath below (Ok tt) (λ ordered. let (last, one, w) = wrote_so ordered in (old, one, w))

@@ -1,12 +1,12 @@
 -- How a word is found: in its cell below, or told by the other cells of the place.
-use Rattle.std.specs.Prelude.{◌≡◌, ℕ, ◌+◌, ◌<◌, ◌≤◌, true, ◌≢◌, List, [], ◌∷◌, ◌++◌, length, Ok, Err, Result}
+use Rattle.std.specs.Prelude.{◌≡◌, ℕ, ◌<◌, ◌≤◌, true, ◌≢◌, List, [], ◌∷◌, ◌++◌, length, Ok, Err, Result}
 use Rattle.std.specs.List.{Contains}
 use Rattle.field.specs.Arithmetic.{Arithmetic}
 use Rattle.plan.specs.Coefficients.{Coefficients}
 use Rattle.plan.specs.Rows.{whole_row}
 use Rattle.shelf.specs.declared.refusal.Refusal.{Refusal}
 use Rattle.shelf.specs.declared.refusal.Refusal.TheVariants.{Lost}
-use Rattle.shelf.specs.Table.{Table, blank, holds, SameShape, Decayed}
+use Rattle.shelf.specs.Table.{Table, holds, SameShape, Decayed}
 use Rattle.shelf.specs.Calls.{NoCell}
 use Rattle.linear.specs.declared.equation.Equation.{Equation}
 use Rattle.array.specs.Decoding.{matched, Allows, AllowsMore}

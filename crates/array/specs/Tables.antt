@@ -1,5 +1,5 @@
 -- An array as a shelf, by the table of the shelf below and its plan, and what its calls do below.
-use Rattle.std.specs.Prelude.{◌≡◌, ℕ, Option, Some, None, Result}
+use Rattle.std.specs.Prelude.{◌≡◌, Option, Some, None, Result}
 use Rattle.field.specs.Arithmetic.{Arithmetic}
 use Rattle.plan.specs.Coefficients.{Coefficients}
 use Rattle.shelf.specs.declared.refusal.Refusal.{Refusal}

@@ -30,6 +30,13 @@ impl<S, P> Array<S, P> {
         Array { below, plan }
     }
 
+    // The shelf below, to look at.
+    pub fn below(&self) -> &S
+        ensures { result.now ≡ self.now.below }
+    {
+        &self.below
+    }
+
     // The shelf below and the plan.
     pub fn take_apart(self) -> (S, P)
         ensures { (result.0 ≡ self.below) × (result.1 ≡ self.plan) }

@@ -20,12 +20,7 @@ fn add_word<P: Plan>(plan: &P, equations: &mut Equations, bay: usize, read: Resu
 }
 
 // Reads the cells of a place but for one bay, and gathers the words that come, each with the row of its bay.
-fn held_words<S: Shelf, P: Plan>(
-    below: &mut S,
-    plan: &P,
-    place: usize,
-    without: usize,
-) -> Equations
+fn held_words<S: Shelf, P: Plan>(below: &mut S, plan: &P, place: usize, without: usize) -> Equations
     ensures { Gathers S.Shelf.table S.Shelf.sound (P.Plan.coefficients plan.now) place without ((P.Plan.coefficients plan.now).n + (P.Plan.coefficients plan.now).m) below.old below.new result.items }
 {
     let mut equations = Equations::new();

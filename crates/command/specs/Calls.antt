@@ -1,5 +1,5 @@
--- What a line of a drill means, and the line that begins one.
-use Rattle.std.specs.Prelude.{ℕ, cond, List, None, Ok, Err, vec_items, codes, slice_index, Option, Result}
+-- What a line asks of a shelf in memory.
+use Rattle.std.specs.Prelude.{ℕ, cond, List, Err, vec_items, codes, slice_index, Option, Result}
 use Rattle.std.specs.Option.{option_map}
 use Rattle.std.specs.Str.{bytes_eq}
 use Rattle.command.specs.Arguments.{exactly, one_and_rest, taking}
@@ -10,7 +10,7 @@ use Rattle.command.specs.declared.calls.ShelfCall.TheVariants.{Stop, Read, Write
 use Rattle.command.specs.declared.command.Fault.{Fault}
 use Rattle.command.specs.declared.command.Fault.TheVariants.{UnknownCommand}
 
--- a line of a drill, with its words as a list; its parts are in the order of the tokens
+-- a call, with its words as a list; its parts are in the order of the tokens
 pub data Call : Type 0 where
   stop : ℕ → ℕ → Call
   read : ℕ → ℕ → Call
@@ -86,18 +86,10 @@ call_named name ts =
     (cond (bytes_eq name (codes "end")) (ending ts)
     (Err UnknownCommand)))))))))
 
--- what a line of a drill means
+-- what a line means
 unfoldable pub calling : List ℕ → Result (Option Call) Fault
 calling line = line_means line (λ name ts. present (call_named name ts))
 
 -- the answer is what the line means; only want of memory may come instead
 abbrev pub ReadsCall : List ℕ → Result (Option ShelfCall) Fault → Type 0
 ReadsCall line r = Answers (option_map called) (calling line) r
-
--- drill PLACES: how many places the drill has that a line begins; any other line begins none
-unfoldable pub drilling : List ℕ → Result (Option ℕ) Fault
-drilling line = line_means line (λ name ts. cond (bytes_eq name (codes "drill")) (present (taking (exactly 1) 2 ts (λ n. slice_index n 0))) (Ok None))
-
--- the answer is that number; only want of memory may come instead
-abbrev pub ReadsDrill : List ℕ → Result (Option ℕ) Fault → Type 0
-ReadsDrill line r = Answers (λ n. n) (drilling line) r

@@ -7,3 +7,4 @@ pub mod Arguments
 pub mod Reading
 pub mod Calls
 pub mod Wording
+pub mod Openings

@@ -45,12 +45,16 @@ plan_of t = cond (bytes_eq t (codes "powers")) (Ok tt) (Err UnknownPlan)
 -- What the tokens after a command's name mean. They are read from left to right, and the first that is wrong is the fault;
 -- where none is, it is a fault that there are too few or too many.
 
--- archive FIELD PLAN DATA CHECKS PLACES; a proof opens it by name, since it is longer than the others
-unfoldable pub archiving : List (List ℕ) → Result Order Fault
-archiving ts =
+-- FIELD PLAN DATA CHECKS PLACES; a proof opens it by name, since it is longer than the others
+unfoldable pub describing : List (List ℕ) → Result Description Fault
+describing ts =
     token_then ts (λ field us. following (field_of field) (λ f.
     token_then us (λ plan vs. following (plan_of plan) (λ _.
-    taking (exactly 3) 4 vs (λ n. archive (record { field = f; data_bays = slice_index n 0; check_bays = slice_index n 1; places = slice_index n 2 }))))))
+    taking (exactly 3) 4 vs (λ n. record { field = f; data_bays = slice_index n 0; check_bays = slice_index n 1; places = slice_index n 2 })))))
+
+-- archive FIELD PLAN DATA CHECKS PLACES
+abbrev pub archiving : List (List ℕ) → Result Order Fault
+archiving ts = following (describing ts) (λ d. Ok (archive d))
 
 -- lay PLACE WORD WORD ..
 abbrev pub laying : List (List ℕ) → Result Order Fault

@@ -1,6 +1,5 @@
-// Reads the lines of a drill: the line that begins it, and the calls of a shelf that come after. The tokens after a line's name are
-// numbers. A call is one branch of `read_call_named` and one definition of what its tokens mean.
-ghost use Rattle.command.specs.Calls.{ReadsCall, ReadsDrill, called, call_named};
+// Reads the calls of a shelf in memory, a line each. The tokens after a line's name are numbers. A call is one branch of `read_call_named` and one definition of what its tokens mean.
+ghost use Rattle.command.specs.Calls.{ReadsCall, called, call_named};
 ghost use Rattle.command.specs.Cursors.{tokens_left};
 ghost use Rattle.command.specs.Outcome.{Answers};
 
@@ -9,7 +8,7 @@ use crate::command::Fault;
 use crate::cursor::{Cursor, name_of};
 use std::alloc::Global;
 
-// What a line of a drill asks for. A bay is a device, a place a position on each device, and a word the number in one cell.
+// What a line asks of a shelf in memory. A bay is a device, a place a position on each device, and a word the number in one cell.
 #[derive(Debug, Drop, PartialEq, Eq)]
 pub enum ShelfCall {
     // The bay stops at the call of this number.
@@ -28,11 +27,11 @@ pub enum ShelfCall {
     Fetch { bay: u32, first: u32, count: u32 },
     // The lost cells of so many places, from the first on.
     Survey { first: u32, count: u32 },
-    // The end of the drill.
+    // The end of the shelf's lines.
     End,
 }
 
-// The call that a line of a drill gives, or None where the line has no token, or where its first begins with '#'.
+// The call that a line gives, or None where the line has no token, or where its first begins with '#'.
 #[tactic(auto, unfolding(crate::specs::Calls::calling))]
 pub fn read_call(heap: Global, line: &[u8]) -> Result<Option<ShelfCall>, Fault>
     ensures { ReadsCall line.now result }
@@ -86,19 +85,5 @@ fn read_call_named(heap: Global, name: &[u8], arguments: Cursor) -> Result<Shelf
             Ok(ShelfCall::End)
         }
         _ => Err(Fault::UnknownCommand),
-    }
-}
-
-// How many places the drill has that a line begins, or None where the line's first token is not `drill`.
-#[tactic(auto, unfolding(crate::specs::Calls::drilling))]
-pub fn read_drill(heap: Global, line: &[u8]) -> Result<Option<u32>, Fault>
-    ensures { ReadsDrill line.now result }
-{
-    match name_of(line) {
-        Some((b"drill", arguments)) => {
-            let [places] = read_exactly::<1>(heap, arguments, 2)?;
-            Ok(Some(places))
-        }
-        _ => Ok(None),
     }
 }

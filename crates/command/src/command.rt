@@ -58,7 +58,8 @@ impl fmt::Display for FieldName {
     }
 }
 
-// What an archive is to be: the field of its words, how many bays hold data, how many hold checks, and how many places each bay has.
+// What an archive or an array is to be: the field of its words, how many bays hold data, how many hold checks, and how many places each
+// bay has.
 #[derive(Clone, Copy, Debug, PartialEq, Eq)]
 pub struct Description {
     pub field: FieldName,

@@ -1,4 +1,4 @@
-// Reads one line of a script into the command that it gives, or one line of a drill into its call.
+// Reads one line of a script into the command that it gives, the shelf in memory that it begins, or the call that it asks of one.
 #![tactic(auto)]
 
 mod arguments;
@@ -6,8 +6,10 @@ mod calls;
 mod command;
 mod cursor;
 mod number;
+mod opening;
 mod read;
 
-pub use calls::{ShelfCall, read_call, read_drill};
+pub use calls::{ShelfCall, read_call};
 pub use command::{Command, Description, Fault, FieldName};
+pub use opening::{Opening, read_opening};
 pub use read::read_command;

@@ -4,7 +4,7 @@
 ghost use Rattle.std.specs.Prelude.{◌≡◌};
 ghost use Rattle.command.specs.Cursors.{tokens_left};
 ghost use Rattle.command.specs.Outcome.{Answers};
-ghost use Rattle.command.specs.Reading.{Reads, meant, named, archiving, plan_of};
+ghost use Rattle.command.specs.Reading.{Reads, meant, named, describing, plan_of};
 
 use crate::arguments::{read_exactly, read_one_and_rest};
 use crate::command::{Command, Description, Fault, FieldName};
@@ -29,7 +29,10 @@ fn read_named(heap: Global, name: &[u8], arguments: Cursor) -> Result<Command, F
     ensures { Answers meant (named name.now (tokens_left arguments.entry)) result }
 {
     match name {
-        b"archive" => read_archive(heap, arguments),
+        b"archive" => {
+            let description = read_description(heap, arguments)?;
+            Ok(Command::Archive(description))
+        }
         b"lay" => {
             let (place, words) = read_one_and_rest(heap, arguments, 2)?;
             Ok(Command::Lay { place, words })
@@ -46,20 +49,20 @@ fn read_named(heap: Global, name: &[u8], arguments: Cursor) -> Result<Command, F
     }
 }
 
-// archive FIELD PLAN DATA CHECKS PLACES
-#[tactic(auto, unfolding(crate::specs::Reading::archiving))]
-fn read_archive(heap: Global, mut arguments: Cursor) -> Result<Command, Fault>
-    ensures { Answers meant (archiving (tokens_left arguments.entry)) result }
+// FIELD PLAN DATA CHECKS PLACES
+#[tactic(auto, unfolding(crate::specs::Reading::describing))]
+pub(crate) fn read_description(heap: Global, mut arguments: Cursor) -> Result<Description, Fault>
+    ensures { Answers (λ d. d) (describing (tokens_left arguments.entry)) result }
 {
     let field = FieldName::try_from(arguments.next().ok_or(Fault::TokenCount)?)?;
     read_plan(arguments.next().ok_or(Fault::TokenCount)?)?;
     let [data_bays, check_bays, places] = read_exactly::<3>(heap, arguments, 4)?;
-    Ok(Command::Archive(Description {
+    Ok(Description {
         field,
         data_bays,
         check_bays,
         places,
-    }))
+    })
 }
 
 // Whether a token names a plan. There is only one, so nothing else is told.

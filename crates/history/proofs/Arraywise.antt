@@ -1,5 +1,5 @@
 -- One call of an array, with a book that backs its cells: the law of the cells of the array is the law of the cells below.
-use Rattle.std.proofs.Common.{◌≡◌, ℕ, ◌<◌, ◌≤◌, List, Some, None, Ok, Err, Option, Result, sym, refl, ap, ◌∙◌, subst, inl, arith}
+use Rattle.std.proofs.Common.{◌≡◌, ℕ, ◌<◌, Some, None, Ok, Err, Option, Result, sym, refl, ap, subst, arith}
 use Rattle.std.specs.Prelude.{vec_items}
 use Rattle.field.specs.Arithmetic.{Arithmetic, Lawful}
 use Rattle.plan.specs.Coefficients.{Coefficients}
@@ -9,7 +9,7 @@ use Rattle.shelf.specs.Calls.{refuses_read, refuses_word, refuses_lay}
 use Rattle.shelf.proofs.Settling.{same_shape}
 use Rattle.shelf.proofs.Words.{cell_fit, word_fit}
 use Rattle.array.specs.declared.coded.Array.{Array}
-use Rattle.array.specs.Decoding.{decoded, InOrder, Means, AllowsOne, AllowsMore}
+use Rattle.array.specs.Decoding.{decoded, InOrder, AllowsOne, AllowsMore}
 use Rattle.array.specs.Tables.{array_table, ArrayOrder, DoneBelow}
 use Rattle.array.proofs.Meaning.{means, blank_in_order, new_blank}
 use Rattle.array.proofs.Cells.{not_both}
@@ -19,8 +19,8 @@ use Rattle.history.specs.declared.call.Answer.{Answer}
 use Rattle.history.specs.declared.call.Answer.TheVariants.{Word, Done, Bits}
 use Rattle.history.specs.Book.{Book, empty, enter}
 use Rattle.history.specs.Laws.{Answered, Changed, RightRead, RightWrite, RightLay, Filled, Empty, ShelfLaw, ArrayLaw, ArrayChange}
-use Rattle.history.specs.Turns.{ShelfTurn, TurnBelow, ArrayTurn}
-use Rattle.history.specs.Runs.{Backed, Stands}
+use Rattle.history.specs.Turns.{TurnBelow, ArrayTurn}
+use Rattle.history.specs.Runs.{Stands}
 use Rattle.history.proofs.Shelfwise.{shelf_step}
 
 -- an answer that is right in one way, where it need be right, is right in another
@@ -49,7 +49,7 @@ module _ (k : Arithmetic) (l : Lawful k) (x : Coefficients) (s t : Table) (befor
   law_below (Write b p w) (Word r) h = h
   law_below (Write b p w) (Done r) h =
       answered_also (refuses_word b p w (decoded k x s)) r _ _ (λ is.
-          let (d, there, low) = word_fit (decoded k x s).bays (decoded k x s).places (decoded k x s).limit b p w is in write_below b p (d, there) r) h
+      let (d, there, low) = word_fit (decoded k x s).bays (decoded k x s).places (decoded k x s).limit b p w is in write_below b p (d, there) r) h
   law_below (Write b p w) (Bits r) h = h
   law_below (Lay p ws) (Word r) h = h
   law_below (Lay p ws) (Done r) h = h

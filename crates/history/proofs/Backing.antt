@@ -1,12 +1,12 @@
 -- A book that backs a table backs it still after each call.
-use Rattle.std.proofs.Common.{◌≡◌, ℕ, ◌+◌, ◌<◌, ◌≤◌, ◌⊎◌, Bool, true, false, true≢false, cond, ◌&&◌, eqb, ltb, List, [], ◌∷◌, length, get_or, Some, None, Ok, Err, Option, Result, sym, refl, ap, ◌∙◌, subst, inl, inr, ⊎_elim, arith}
-use Rattle.std.proofs.lemmas.Bool.{cases_Bool, cases_eq, cond-true, cond-false, and_from, and_parts, lt-ltb, eq-eqb, eqb-true}
+use Rattle.std.proofs.Common.{◌≡◌, ℕ, ◌<◌, Bool, true, false, true≢false, cond, ◌&&◌, eqb, ltb, List, length, get_or, Some, None, Option, sym, refl, ap, ◌∙◌, subst, inl, inr, ⊎_elim, arith}
+use Rattle.std.proofs.lemmas.Bool.{cases_Bool, cond-true, cond-false, and_from, and_parts, lt-ltb, eq-eqb, eqb-true}
 use Rattle.std.proofs.lemmas.Option.{same_Some}
 use Rattle.shelf.specs.declared.refusal.Refusal.{Refusal}
-use Rattle.shelf.specs.declared.refusal.Refusal.TheVariants.{NoSuchBay, NoSuchPlace, WordOutOfRange, WrongCount, Lost}
-use Rattle.shelf.specs.Refusals.{first_of, word_refusal}
-use Rattle.shelf.specs.Table.{Table, Cell, blank, holds, SameShape, Unchanged, Decayed, Kept}
-use Rattle.shelf.specs.Calls.{Set, NoCell, ThisCell, ThisPlace, Laid}
+use Rattle.shelf.specs.declared.refusal.Refusal.TheVariants.{NoSuchBay, NoSuchPlace, WordOutOfRange}
+use Rattle.shelf.specs.Refusals.{word_refusal}
+use Rattle.shelf.specs.Table.{Table, holds, SameShape, Unchanged, Decayed, Kept}
+use Rattle.shelf.specs.Calls.{NoCell, ThisCell, Laid}
 use Rattle.shelf.proofs.Settling.{held_before}
 use Rattle.array.proofs.Cells.{not_both, same_word}
 use Rattle.history.specs.Book.{Book, put, put_all, is_lost}

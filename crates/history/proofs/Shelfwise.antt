@@ -1,11 +1,11 @@
 -- One call of a shelf, with a book that backs its cells: s and t are the tables before and after it.
-use Rattle.std.proofs.Common.{◌≡◌, ℕ, ◌+◌, ◌<◌, ◌≤◌, ◌⊎◌, Bool, cond, List, length, Some, None, Ok, Err, Option, Result, sym, refl, ap, ◌∙◌, subst, inl, inr, ⊎_elim, arith}
+use Rattle.std.proofs.Common.{◌≡◌, ℕ, ◌<◌, ◌⊎◌, List, Some, None, Ok, Err, Option, Result, sym, refl, ap, subst, ⊎_elim}
 use Rattle.std.specs.Prelude.{vec_items}
 use Rattle.std.proofs.lemmas.Bool.{cond-false}
 use Rattle.shelf.specs.declared.refusal.Refusal.{Refusal}
 use Rattle.shelf.specs.declared.refusal.Refusal.TheVariants.{Lost}
 use Rattle.shelf.specs.Table.{Table, Cell, blank, holds, SameShape}
-use Rattle.shelf.specs.Calls.{Settled, Outcome, ReadAnswer, WriteAnswer, Written, Laid, LayAnswer, ThisCell, refuses_read, refuses_word, refuses_lay}
+use Rattle.shelf.specs.Calls.{Settled, ReadAnswer, WriteAnswer, Written, LayAnswer, refuses_read, refuses_word, refuses_lay}
 use Rattle.shelf.specs.Calls.{Read as Reads}
 use Rattle.shelf.proofs.Words.{cell_fit, word_fit, lay_fit}
 use Rattle.array.proofs.Cells.{not_both, same_word}
@@ -43,9 +43,11 @@ module _ (book : Book) (s t : Table) (P Q : Type 0) (sound : P) (backed : Backed
       -- A kept one had the old word, and leaves the new one, or none.
       kept_write : (old : ℕ) → book b p ≡ Some old → s.cell b p ≡ holds old → (r : Result Unit Refusal) → r ≡ Ok tt → Written b p w s t r → (t.cell b p ≡ holds w) ⊎ (t.cell b p ≡ blank) → RightWrite (λ t. t) Filled Empty book s b p r t × Backed (after_write b p w r book) t
       kept_write old entry had r is wrote set =
-          subst (λ r. RightWrite (λ t. t) Filled Empty book s b p r t × Backed (after_write b p w r book) t) (sym is)
-          ((old, entry, had), backed_put book s t backed b p (Some w) wrote.rest (λ v e.
-              ⊎_elim (λ now. ap Some (same_word (t.cell b p) w v now e)) (λ empty. absurd (not_both (t.cell b p) v empty e)) set))
+          subst (λ r. RightWrite (λ t. t) Filled Empty book s b p r t × Backed (after_write b p w r book) t) (sym is) (
+            (old, entry, had),
+            backed_put book s t backed b p (Some w) wrote.rest (λ v e.
+                ⊎_elim (λ now. ap Some (same_word (t.cell b p) w v now e)) (λ empty. absurd (not_both (t.cell b p) v empty e)) set),
+          )
 
       wrote : (b < s.bays) × (p < s.places) → (r : Result Unit Refusal) → Written b p w s t r → (c : Cell) → s.cell b p ≡ c → WriteAnswer w c (t.cell b p) r → RightWrite (λ t. t) Filled Empty book s b p r t × Backed (after_write b p w r book) t
       wrote there r h blank is (lost, empty) = lost_write r lost h empty
@@ -56,9 +58,13 @@ module _ (book : Book) (s t : Table) (P Q : Type 0) (sound : P) (backed : Backed
 
       write_step : (o : Option Refusal) → refuses_word b p w s ≡ o → (r : Result Unit Refusal) → Settled s t P Q o (Written b p w) r
           → Answered o r (RightWrite (λ t. t) Filled Empty book s b p r t) × Changed o s t (Written b p w s t r) × Q × Backed (after_write b p w r book) t
-      write_step (Some e) is r (answer, same, stays) =
-          (answer, same, stays sound, subst (λ r. Backed (after_write b p w r book) t) (sym answer)
-          (subst (λ book. Backed book t) (sym (cond-false (is_lost e) (put b p None book) book (word_not_lost s.bays s.places s.limit b p w e is))) (backed_unchanged book s t backed same)))
+      write_step (Some e) is r (answer, same, stays) = (
+        answer,
+        same,
+        stays sound,
+        subst (λ r. Backed (after_write b p w r book) t) (sym answer)
+            (subst (λ book. Backed book t) (sym (cond-false (is_lost e) (put b p None book) book (word_not_lost s.bays s.places s.limit b p w e is))) (backed_unchanged book s t backed same)),
+      )
       write_step None is r settled =
           let (after, h) = settled sound in
           let (d, there, low) = word_fit s.bays s.places s.limit b p w is in

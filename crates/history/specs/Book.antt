@@ -1,6 +1,6 @@
 -- The plain book of a history. It is fed only the calls in turn, with their arguments and answers, and has a word or none for each bay
 -- and place.
-use Rattle.std.specs.Prelude.{◌≡◌, ℕ, Bool, cond, ◌&&◌, ◌==◌, List, [], ◌∷◌, length, Some, None, Ok, Err, vec_items, Option, Result, slice_index, nat_lt}
+use Rattle.std.specs.Prelude.{ℕ, Bool, cond, ◌&&◌, ◌==◌, List, [], ◌∷◌, length, Some, None, Ok, Err, vec_items, Option, Result, slice_index, nat_lt}
 use Rattle.shelf.specs.declared.refusal.Refusal.{Refusal}
 use Rattle.shelf.specs.Refusals.{number}
 use Rattle.history.specs.declared.call.Call.{Call}

@@ -1,5 +1,5 @@
 -- What the calls of a history answer: s is the table before the call, t the table after it.
-use Rattle.std.specs.Prelude.{◌≡◌, ℕ, ⊤, List, Some, None, Ok, Err, vec_items, Option, Result}
+use Rattle.std.specs.Prelude.{◌≡◌, ℕ, ⊤, Some, None, Ok, Err, vec_items, Option, Result}
 use Rattle.field.specs.Arithmetic.{Arithmetic}
 use Rattle.plan.specs.Coefficients.{Coefficients}
 use Rattle.shelf.specs.declared.refusal.Refusal.{Refusal}

@@ -1,5 +1,5 @@
 -- What one call of a history promises, before the book is asked.
-use Rattle.std.specs.Prelude.{ℕ, vec_items}
+use Rattle.std.specs.Prelude.{vec_items}
 use Rattle.field.specs.Arithmetic.{Arithmetic}
 use Rattle.plan.specs.Coefficients.{Coefficients}
 use Rattle.shelf.specs.Table.{Table}

@@ -28,10 +28,10 @@ module _ (k : Arithmetic) (l : Lawful k) where
         let same : i ≡ b = omega arith in
         let at : 0 ≡ b - i = omega arith in
         ap₂ k.add
-            (ap (λ c. k.mul c x) (ap f same ∙ one) ∙ l.one-mul x (h 0))
-            (dot-none k l f (range_with_len (i + 1) n) xs (λ j. h (suc j)) (λ j d within.
-                none (get_or (range_with_len (i + 1) n) j d)
-                (λ e. let w = length-range_with_len (i + 1) n in let at = get_or-range_with_len (i + 1) n j d (omega arith) in let z : ⊥ = omega arith in z)))
+        (ap (λ c. k.mul c x) (ap f same ∙ one) ∙ l.one-mul x (h 0))
+        (dot-none k l f (range_with_len (i + 1) n) xs (λ j. h (suc j)) (λ j d within.
+        none (get_or (range_with_len (i + 1) n) j d)
+        (λ e. let w = length-range_with_len (i + 1) n in let at = get_or-range_with_len (i + 1) n j d (omega arith) in let z : ⊥ = omega arith in z)))
         ∙ add-zero k l x (h 0)
         ∙ ap (λ j. get_or (x ∷ xs) j 0) at
   ]

@@ -122,7 +122,7 @@ impl fmt::Display for Answer {
                 write!(f, "bay {bay} from place {first}: {places}, words {found}")
             }
             Answer::Surveyed { run, lost } => write!(f, "{run}: {}", LostCells(lost)),
-            Answer::Ended => write!(f, "drill ended"),
+            Answer::Ended => write!(f, "ended"),
         }
     }
 }

@@ -1,52 +1,66 @@
-// Carries out the calls of a drill's lines.
+// Carries out the lines of a shelf in memory.
 // Numbers of a line have 32 bits, and those of a shelf are usize. Rust has no From between them, so they are cast, which loses nothing.
 use crate::answer::{Answer, Run};
 use crate::fault::Fault;
-use command::{ShelfCall, read_call};
-use layers::{Drill, Pair};
-use shelf::{LostCell, Serviceable, Shape, Shelf, fetch, survey};
+use crate::stage::Stage;
+use command::ShelfCall;
+use history::Call;
+use shelf::{LostCell, Shape, Shelf, fetch, survey};
 use std::alloc::Global;
 
-// The bays of the first half of a drill's shelf.
-const FIRST_BAYS: u32 = 2;
-
-// Plans that a bay stops, in the half that has the bay.
-fn stop<A, B>(halves: &mut Pair<Drill<A>, Drill<B>>, call: u32, bay: u32) -> Result<Answer, Fault> {
-    if bay < FIRST_BAYS {
-        halves.first.add(call, bay as usize)?;
-    } else {
-        halves.second.add(call, (bay - FIRST_BAYS) as usize)?;
-    }
-    Ok(Answer::Stops { bay, call })
-}
-
 // Reads the word of a cell.
-fn read<S: Shelf>(shelf: &mut S, bay: u32, place: u32) -> Result<Answer, Fault> {
-    let word = shelf.read(bay as usize, place as usize)?;
-    Ok(Answer::Found { bay, place, word })
+fn read<S: Stage>(shelf: &mut S, bay: u32, place: u32) -> Result<Answer, Fault> {
+    let call = Call::Read {
+        bay: bay as usize,
+        place: place as usize,
+    };
+    match shelf.make(call)? {
+        history::Answer::Word(word) => Ok(Answer::Found {
+            bay,
+            place,
+            word: word?,
+        }),
+        _ => Err(Fault::OtherAnswer),
+    }
 }
 
 // Writes a word in a filled cell.
-fn write<S: Shelf>(shelf: &mut S, bay: u32, place: u32, word: u32) -> Result<Answer, Fault> {
-    shelf.write(bay as usize, place as usize, word)?;
-    Ok(Answer::Written { bay, place, word })
+fn write<S: Stage>(shelf: &mut S, bay: u32, place: u32, word: u32) -> Result<Answer, Fault> {
+    let call = Call::Write {
+        bay: bay as usize,
+        place: place as usize,
+        word,
+    };
+    match shelf.make(call)? {
+        history::Answer::Done(done) => {
+            done?;
+            Ok(Answer::Written { bay, place, word })
+        }
+        _ => Err(Fault::OtherAnswer),
+    }
 }
 
 // Lays the words, one for each bay, at a place.
-fn lay<S: Shelf>(shelf: &mut S, place: u32, words: &[u32]) -> Result<Answer, Fault> {
-    let bits = shelf.lay(place as usize, words)?;
-    Ok(Answer::Laid { place, bits })
+fn lay<S: Stage>(shelf: &mut S, place: u32, words: Vec<u32>) -> Result<Answer, Fault> {
+    let call = Call::Lay {
+        place: place as usize,
+        words,
+    };
+    match shelf.make(call)? {
+        history::Answer::Bits(bits) => Ok(Answer::Laid { place, bits: bits? }),
+        _ => Err(Fault::OtherAnswer),
+    }
 }
 
 // Puts a word in a cell, blank or filled.
-fn patch<S: Serviceable>(shelf: &mut S, bay: u32, place: u32, word: u32) -> Result<Answer, Fault> {
-    shelf.patch(bay as usize, place as usize, word)?;
+fn patch<S: Stage>(shelf: &mut S, bay: u32, place: u32, word: u32) -> Result<Answer, Fault> {
+    shelf.set_cell(bay as usize, place as usize, word)?;
     Ok(Answer::Patched { bay, place, word })
 }
 
 // Puts a fresh device in a bay.
-fn exchange<S: Serviceable>(shelf: &mut S, bay: u32) -> Result<Answer, Fault> {
-    shelf.exchange(bay as usize)?;
+fn exchange<S: Stage>(shelf: &mut S, bay: u32) -> Result<Answer, Fault> {
+    shelf.replace_device(bay as usize)?;
     Ok(Answer::Exchanged { bay })
 }
 
@@ -81,33 +95,17 @@ fn survey_run<S: Shelf>(heap: Global, shelf: &mut S, run: Run) -> Result<Answer,
     Ok(Answer::Surveyed { run, lost })
 }
 
-// Carries out a call on the shelf of a drill.
-fn carry_out<A: Serviceable, B: Serviceable>(
-    heap: Global,
-    shelf: &mut Pair<Drill<A>, Drill<B>>,
-    call: ShelfCall,
-) -> Result<Answer, Fault> {
+// Carries out a call that the shelf answers as it stands: all but a stop, for which it is taken apart.
+pub fn carry_out<S: Stage>(heap: Global, shelf: &mut S, call: ShelfCall) -> Result<Answer, Fault> {
     match call {
-        ShelfCall::Stop { call, bay } => stop(shelf, call, bay),
+        ShelfCall::Stop { call: _, bay: _ } => Err(Fault::NoSuchCall),
         ShelfCall::Read { bay, place } => read(shelf, bay, place),
         ShelfCall::Write { bay, place, word } => write(shelf, bay, place, word),
-        ShelfCall::Lay { place, words } => lay(shelf, place, &words),
+        ShelfCall::Lay { place, words } => lay(shelf, place, words),
         ShelfCall::Patch { bay, place, word } => patch(shelf, bay, place, word),
         ShelfCall::Exchange { bay } => exchange(shelf, bay),
         ShelfCall::Fetch { bay, first, count } => fetch_run(heap, shelf, bay, first, count),
         ShelfCall::Survey { first, count } => survey_run(heap, shelf, Run { first, count }),
         ShelfCall::End => Ok(Answer::Ended),
-    }
-}
-
-// Carries out one line of a drill, and answers what the account says of it: nothing, where the line means nothing.
-pub fn take_call<A: Serviceable, B: Serviceable>(
-    heap: Global,
-    shelf: &mut Pair<Drill<A>, Drill<B>>,
-    line: &[u8],
-) -> Result<Option<Answer>, Fault> {
-    match read_call(heap, line)? {
-        None => Ok(None),
-        Some(call) => Ok(Some(carry_out(heap, shelf, call)?)),
     }
 }

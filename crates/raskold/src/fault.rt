@@ -2,17 +2,33 @@ use layers::Overfull;
 use shelf::Refusal;
 use std::alloc::AllocError;
 use thiserror::Error;
+use trays::Misfit;
 
-// Why a line of a drill was not carried out. Then nothing was changed. Each variant prints the number of its own enum of refusals, as in
+// Why a line of a shelf in memory was not carried out. Then nothing was changed. Each variant prints the number of its own enum of refusals, as in
 // the archive.
 #[derive(Debug, Drop, Error)]
 pub enum Fault {
     // The line gives no call.
     #[error("{0}")]
     Text(#[from] command::Fault),
-    // The drill has not 1 to 65,535 places.
-    #[error("a drill has 1 to 65535 places")]
+    // The shelf has not 1 to 65,535 places.
+    #[error("a shelf in memory has 1 to 65535 places")]
     PlacesOutOfRange,
+    // A tray of that limit or length is none.
+    #[error("refused by {}: {}", .0.number(), .0)]
+    Misfit(#[from] Misfit),
+    // The plan is refused.
+    #[error("refused by {}: {}", .0.number(), .0)]
+    Plan(#[from] plan::Refusal),
+    // Neither three nor six bays below an array, or not four below the array on a pile.
+    #[error("an array stands on 3 or 6 trays, and the array of a pile on 4 bays")]
+    BaysBelow,
+    // An array has no such call.
+    #[error("the shelf has no such call")]
+    NoSuchCall,
+    // A history answers each call by its kind, so this never comes.
+    #[error("an answer of another call")]
+    OtherAnswer,
     // The call is refused.
     #[error("refused by {}: {}", .0.number(), .0)]
     Refused(#[from] Refusal),

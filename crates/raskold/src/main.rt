@@ -4,11 +4,14 @@
 mod answer;
 mod calls;
 mod fault;
+mod memory;
 mod rehearsal;
+mod shelves;
+mod stage;
 
-use crate::rehearsal::rehearse;
+use crate::shelves::rehearse;
 use archive::Archive;
-use command::read_drill;
+use command::read_opening;
 use script::Script;
 use std::io::BufReader;
 
@@ -22,8 +25,8 @@ fn run(rt: &HostRuntime) -> anyhow::Result<()> {
         if !script.advance()? {
             break;
         }
-        match read_drill(rt.alloc(), &script.line) {
-            Ok(Some(places)) => rehearse(rt, &mut script, places)?,
+        match read_opening(rt.alloc(), &script.line) {
+            Ok(Some(opening)) => rehearse(rt, &mut script, opening)?,
             Ok(None) => {
                 let said = archive.take_line(rt.alloc(), &script.line);
                 script.tell(rt, said)?;

@@ -1,4 +1,3 @@
-use Rattle.std.proofs.Common.{sym, subst, ap, ◌∙◌}
 use Rattle.array.proofs.Gathering.{next_skip, next_read}
 use Rattle.array.proofs.finding.held_words.Goals as goal
 use Rattle.array.proofs.finding.held_words.Goals.{then-bay-without, else-bay-without}

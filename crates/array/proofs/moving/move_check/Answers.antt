@@ -1,6 +1,6 @@
 use Rattle.std.proofs.Common.{◌+◌, Ok, sym, ◌∙◌, subst}
 use Rattle.shelf.specs.Calls.{Outcome, refuses_word, refuses_read, Read, Written}
-use Rattle.array.proofs.Moves.{check_apart, check_lost, check_written}
+use Rattle.array.proofs.Moves.{check_apart, check_written}
 use Rattle.array.proofs.moving.move_check.Goals as goal
 
 pub returns-then-coefficient-eq0 : goal.returns-then-coefficient-eq0

@@ -1,5 +1,5 @@
-use Rattle.std.proofs.Common.{◌+◌, ap, subst, sym, ◌∙◌, arith}
-use Rattle.array.proofs.Moves.{Rewriting, first_written, next_check, all_rewritten}
+use Rattle.std.proofs.Common.{◌+◌, subst, arith}
+use Rattle.array.proofs.Moves.{Rewriting, next_check, all_rewritten}
 use Rattle.array.proofs.moving.rewrite.Goals as goal
 
 pub loop-i-preserved : goal.loop-i-preserved

@@ -1,7 +1,7 @@
-use Rattle.std.proofs.Common.{sym, arith}
+use Rattle.std.proofs.Common.{sym}
 use Rattle.history.specs.Laws.{ShelfLaw, ShelfChange}
 use Rattle.history.specs.Runs.{Stands}
-use Rattle.history.proofs.Chains.{run_first, run_more, run_all, ran_all}
+use Rattle.history.proofs.Chains.{run_more, run_all, ran_all}
 use Rattle.history.proofs.Shelfwise.{shelf_step}
 use Rattle.history.proofs.runs.keep.Goals as goal
 
@@ -13,8 +13,8 @@ loop-i-preserved g c =
     (λ book. Stands table sound book c.loop-i.shelf) (λ book. Stands table sound book c.shelf_turn.new.shelf) (table c.loop-i.shelf) (table c.shelf_turn.new.shelf) c.loop-i.i c.loop-i.answers c.index-calls-i.result c.shelf_turn.result
     c.loop-i-test.true (sym c.index-calls-i.is) c.loop-i.invariant
     (λ book stands.
-        let (same, law, change, ordered, backed) = shelf_step table sound c.loop-i.shelf c.shelf_turn.new.shelf c.index-calls-i.result c.shelf_turn.result c.shelf_turn.ensures book stands in
-        (change, law, (ordered, backed)))
+    let (same, law, change, ordered, backed) = shelf_step table sound c.loop-i.shelf c.shelf_turn.new.shelf c.index-calls-i.result c.shelf_turn.result c.shelf_turn.ensures book stands in
+    (change, law, (ordered, backed)))
 
 pub returns : goal.returns
 returns g c =

@@ -1,10 +1,10 @@
-use Rattle.std.proofs.Common.{sym, ap, ◌∙◌, subst, arith}
+use Rattle.std.proofs.Common.{sym, ap, ◌∙◌, subst}
 use Rattle.array.specs.Tables.{array_table, ArrayOrder}
 use Rattle.history.specs.Book.{enter, empty}
 use Rattle.history.specs.Laws.{ArrayLaw, ArrayChange}
 use Rattle.history.specs.Runs.{Stands}
 use Rattle.history.proofs.Arraywise.{array_step, turn_plan, new_stands}
-use Rattle.history.proofs.Chains.{run_first, run_more, run_all, ran_all}
+use Rattle.history.proofs.Chains.{run_more, run_all, ran_all}
 use Rattle.history.proofs.runs.run.Goals as goal
 
 pub loop-i-preserved : goal.loop-i-preserved
@@ -38,9 +38,11 @@ returns-clause-law g c =
     let table = array_table below k coefficients in
     let sound = ArrayOrder below g.S.Shelf.sound k coefficients in
     let (plan, so_far) = c.loop-i.invariant in
-    ran_all c.args.calls.now c.args.answers.now c.loop-i.answers c.args.array.now c.loop-i.array _ c.if-calls-answers.false
-    (plan, run_all (ArrayLaw k x) (ArrayChange k x) (λ book. Stands table sound book c.args.array.now) (below c.args.array.now.below) c.args.calls.now
-        (λ book. Stands table sound book c.loop-i.array) (below c.loop-i.array.below) c.loop-i.i c.loop-i.answers c.loop-i-test.false so_far)
+    ran_all c.args.calls.now c.args.answers.now c.loop-i.answers c.args.array.now c.loop-i.array _ c.if-calls-answers.false (
+      plan,
+      run_all (ArrayLaw k x) (ArrayChange k x) (λ book. Stands table sound book c.args.array.now) (below c.args.array.now.below) c.args.calls.now
+          (λ book. Stands table sound book c.loop-i.array) (below c.loop-i.array.below) c.loop-i.i c.loop-i.answers c.loop-i-test.false so_far,
+    )
 
 pub returns-clause-new : goal.returns-clause-new
 returns-clause-new g c done ordered blanks =

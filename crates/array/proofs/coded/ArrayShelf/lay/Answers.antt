@@ -1,10 +1,8 @@
-use Rattle.std.proofs.Common.{◌%◌, ◌^◌, ◌<◌, Ok, Err, sym, ap, ◌∙◌, subst, arith}
+use Rattle.std.proofs.Common.{◌%◌, ◌^◌, ◌<◌, Ok, Err, ap, ◌∙◌, subst, arith}
 use Rattle.std.proofs.lemmas.Nat.{one_shl}
-use Rattle.std.proofs.lemmas.Result.{err_from_is_err_and}
 use Rattle.shelf.proofs.Settling.{tested_lay}
 use Rattle.shelf.specs.Calls.{Outcome, LayAnswer, refuses_lay}
-use Rattle.array.specs.Changes.{LayBelow}
-use Rattle.array.specs.Tables.{array_table, Beneath}
+use Rattle.array.specs.Tables.{array_table}
 use Rattle.array.proofs.Lays.{words_vector, refused_promised, refused_below, lay_promised, lay_below}
 use Rattle.array.proofs.coded.ArrayShelf.lay.Goals as goal
 
