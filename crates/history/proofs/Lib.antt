@@ -2,3 +2,4 @@ pub mod Backing
 pub mod Shelfwise
 pub mod Chains
 pub mod Arraywise
+pub mod Booking

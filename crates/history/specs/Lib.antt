@@ -1,4 +1,5 @@
 pub mod Book
+pub mod Books
 pub mod Laws
 pub mod History
 pub mod Turns

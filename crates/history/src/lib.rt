@@ -1,9 +1,11 @@
 // Histories: lists of calls made in turn, and the law that their answers keep.
 #![tactic(auto)]
 
+mod book;
 mod call;
 mod runs;
 mod turn;
 
+pub use crate::book::Book;
 pub use crate::call::{Answer, Call};
 pub use crate::runs::{keep, run};
