@@ -12,19 +12,20 @@ use Rattle.plan.proofs.Dots.{vector_codes, dot_below}
 use Rattle.plan.proofs.Rows.{row-codes}
 use Rattle.plan.proofs.Vectors.{plus, plus_vector, less, less_vector, dot-same, dot-equal}
 use Rattle.shelf.specs.declared.refusal.Refusal.{Refusal}
-use Rattle.shelf.specs.Table.{Table, Cell, blank, holds, SameShape, Kept}
+use Rattle.shelf.specs.Table.{Table, Cell, blank, holds, Kept}
 use Rattle.shelf.specs.Calls.{Outcome, bit, Set, Laid, LayAnswer, ThisPlace, refuses_lay}
-use Rattle.shelf.proofs.Settling.{done, when_done, lay_there}
+use Rattle.shelf.proofs.Settling.{when_done, lay_there}
 use Rattle.shelf.proofs.Words.{lay_fit, none_large}
 use Rattle.shelf.proofs.Gathering.{bit_low}
 use Rattle.linear.specs.Sets.{TellsJust}
 use Rattle.array.specs.declared.coded.Array.{Array}
-use Rattle.array.specs.Tables.{array_table, ArrayOrder, ArrayOutcome, DoneBelow, Beneath}
+use Rattle.array.specs.Tables.{array_table, ArrayOrder, ArrayOutcome, Beneath}
 use Rattle.array.specs.Decoding.{Gives, Agrees, decoded, InOrder}
 use Rattle.array.specs.Changes.{row_words, LayBelow}
 use Rattle.array.proofs.Adding.{gives_plus, zero_between}
 use Rattle.array.proofs.Cells.{cases_cell, not_both, holds_all, blank_more}
 use Rattle.array.proofs.Meaning.{running_from}
+use Rattle.array.proofs.Promising.{array_after, promised, beneath}
 use Rattle.array.proofs.Shapes.{Fits, fits_place, array_shape, array_limit}
 use Rattle.array.proofs.Decays.{cells_still, order_still, array_decayed}
 
@@ -125,9 +126,6 @@ module _ {S P : Type 0} (table : S → Table) (sound : S → Type 0) (k : Arithm
   abbrev s : Table
   s = table before.below
 
-  abbrev after : S → Array S P
-  after below = record { below = below; plan = before.plan }
-
   -- What is known of a lay that is not refused: its words are a data vector,
   pub words_vector : Vector k x.n ws
   words_vector =
@@ -155,14 +153,8 @@ module _ {S P : Type 0} (table : S → Table) (sound : S → Type 0) (k : Arithm
       omega arith))
 
   module _ (below : S) where
-    module _ (r : Result ℕ Refusal) (same : SameShape s (table below)) (kept : ArrayOrder table sound k coefficients before → ArrayOrder table sound k coefficients (after below) × LayAnswer p ws (decoded k x s) (decoded k x (table below)) r) where
-      promised : ArrayOutcome table sound k coefficients before (after below) (refuses_lay p ws) (LayAnswer p ws) r
-      promised =
-          done (array_table table k coefficients before) (array_table table k coefficients (after below)) (ArrayOrder table sound k coefficients before) (ArrayOrder table sound k coefficients (after below)) (refuses_lay p ws (array_table table k coefficients before)) (LayAnswer p ws) r none
-          (array_shape k x s (table below) same) kept
-
-    beneath : (r : Result ℕ Refusal) → (ArrayOrder table sound k coefficients before → LayBelow p ws r k x s (table below)) → Beneath table sound k coefficients before (after below) (refuses_lay p ws) (LayBelow p ws r)
-    beneath r changes = (refl, subst (λ o. DoneBelow o before (after below) (ArrayOrder table sound k coefficients before → LayBelow p ws r k x s (table below))) (sym none) changes)
+    abbrev then : Array S P
+    then = array_after table sound k coefficients before (refuses_lay p ws) none below
 
     -- what the lay below promises
     module _ (r : Result ℕ Refusal) (lay : Outcome table sound before.below below (refuses_lay p (row_words k x ws)) (LayAnswer p (row_words k x ws)) r) where
@@ -171,11 +163,12 @@ module _ {S P : Type 0} (table : S → Table) (sound : S → Type 0) (k : Arithm
           when_done s (table below) (sound before.below) (sound below) (refuses_lay p (row_words k x ws) s) (LayAnswer p (row_words k x ws)) r below_none lay ordered.0
 
     -- it is never refused
-    pub refused_promised : (e : Refusal) → Outcome table sound before.below below (refuses_lay p (row_words k x ws)) (LayAnswer p (row_words k x ws)) (Err e) → (r : Result ℕ Refusal) → ArrayOutcome table sound k coefficients before (after below) (refuses_lay p ws) (LayAnswer p ws) r
-    refused_promised e lay r = promised r lay.0 (λ ordered. absurd (laid_so (Err e) lay ordered).1)
+    pub refused_promised : (e : Refusal) → Outcome table sound before.below below (refuses_lay p (row_words k x ws)) (LayAnswer p (row_words k x ws)) (Err e) → (r : Result ℕ Refusal) → ArrayOutcome table sound k coefficients before then (refuses_lay p ws) (LayAnswer p ws) r
+    refused_promised e lay r =
+        promised table sound k coefficients before (refuses_lay p ws) none below (LayAnswer p ws) r lay.0 (λ ordered. (laid_so (Err e) lay ordered).0) (λ ordered. absurd (laid_so (Err e) lay ordered).1)
 
-    pub refused_below : (e : Refusal) → Outcome table sound before.below below (refuses_lay p (row_words k x ws)) (LayAnswer p (row_words k x ws)) (Err e) → (r : Result ℕ Refusal) → Beneath table sound k coefficients before (after below) (refuses_lay p ws) (LayBelow p ws r)
-    refused_below e lay r = beneath r (λ ordered. absurd (laid_so (Err e) lay ordered).1)
+    pub refused_below : (e : Refusal) → Outcome table sound before.below below (refuses_lay p (row_words k x ws)) (LayAnswer p (row_words k x ws)) (Err e) → (r : Result ℕ Refusal) → Beneath table sound k coefficients before then (refuses_lay p ws) (LayBelow p ws r)
+    refused_below e lay r = beneath table sound k coefficients before (refuses_lay p ws) none below (LayBelow p ws r) (λ ordered. absurd (laid_so (Err e) lay ordered).1)
 
     -- the bits of the data bays that are told
     module _ (low all bits : ℕ) (lay : Outcome table sound before.below below (refuses_lay p (row_words k x ws)) (LayAnswer p (row_words k x ws)) (Ok low)) (told : TellsJust k x (bit low) all) (is : bits ≡ all % 2 ^ x.n) where
@@ -190,11 +183,13 @@ module _ {S P : Type 0} (table : S → Table) (sound : S → Type 0) (k : Arithm
       data_told : (j : ℕ) → j < x.n → MatchBool (bit bits j) (Tells k x (bit low) j) (Tells k x (bit low) j → ⊥)
       data_told j d = subst (λ b. MatchBool b (Tells k x (bit low) j) (Tells k x (bit low) j → ⊥)) (sym (same_bit j d)) (told j (omega arith))
 
-      pub lay_promised : ArrayOutcome table sound k coefficients before (after below) (refuses_lay p ws) (LayAnswer p ws) (Ok bits)
-      lay_promised = promised (Ok bits) lay.0 (λ ordered.
-          let (last, laid) = laid_so (Ok low) lay ordered in
-          let (order, laid) = lays k l x fit s (table below) p ws words_vector low bits fit_here.bays laid data_told few_bits fit_here.own_bays ordered.1 in
-          ((last, order), laid))
+      pub lay_promised : ArrayOutcome table sound k coefficients before then (refuses_lay p ws) (LayAnswer p ws) (Ok bits)
+      lay_promised =
+          promised table sound k coefficients before (refuses_lay p ws) none below (LayAnswer p ws) (Ok bits) lay.0
+          (λ ordered. (laid_so (Ok low) lay ordered).0)
+          (λ ordered. lays k l x fit s (table below) p ws words_vector low bits fit_here.bays (laid_so (Ok low) lay ordered).1 data_told few_bits fit_here.own_bays ordered.1)
 
-      pub lay_below : Beneath table sound k coefficients before (after below) (refuses_lay p ws) (LayBelow p ws (Ok bits))
-      lay_below = beneath (Ok bits) (λ ordered. record { low = low; laid = (laid_so (Ok low) lay ordered).1; told = data_told; others = few_bits })
+      pub lay_below : Beneath table sound k coefficients before then (refuses_lay p ws) (LayBelow p ws (Ok bits))
+      lay_below =
+          beneath table sound k coefficients before (refuses_lay p ws) none below (LayBelow p ws (Ok bits))
+          (λ ordered. record { low = low; laid = (laid_so (Ok low) lay ordered).1; told = data_told; others = few_bits })

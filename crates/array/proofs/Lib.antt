@@ -8,6 +8,7 @@ pub mod Rewriting
 pub mod Moves
 pub mod Meaning
 pub mod Decays
+pub mod Promising
 pub mod Reading
 pub mod Writing
 pub mod Adding

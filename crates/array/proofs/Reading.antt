@@ -1,5 +1,5 @@
 -- A read of an array: s is the table below before, t the table below after.
-use Rattle.std.proofs.Common.{◌≡◌, ℕ, ◌<◌, None, Ok, Err, Result, sym, refl, subst, arith}
+use Rattle.std.proofs.Common.{◌≡◌, ℕ, ◌<◌, None, Ok, Err, Result, refl, arith}
 use Rattle.std.specs.Prelude.{⊤}
 use Rattle.field.specs.Arithmetic.{Arithmetic, Lawful}
 use Rattle.plan.specs.Coefficients.{Coefficients}
@@ -7,16 +7,16 @@ use Rattle.plan.specs.Rows.{row, dot}
 use Rattle.shelf.specs.declared.refusal.Refusal.{Refusal}
 use Rattle.shelf.specs.Table.{Table}
 use Rattle.shelf.specs.Calls.{Read, ReadAnswer, NoCell, refuses_read}
-use Rattle.shelf.proofs.Settling.{done}
 use Rattle.shelf.proofs.Words.{cell_fit}
 use Rattle.array.specs.declared.coded.Array.{Array}
 use Rattle.array.specs.Decoding.{decoded, InOrder}
 use Rattle.array.specs.Finding.{WordAnswer, Found, Finds}
-use Rattle.array.specs.Tables.{array_table, ArrayOrder, ArrayOutcome, DoneBelow, Beneath}
+use Rattle.array.specs.Tables.{array_table, ArrayOrder, ArrayOutcome, Beneath}
 use Rattle.array.specs.Changes.{ReadBelow}
 use Rattle.array.proofs.Cells.{one_holds, more_blank}
-use Rattle.array.proofs.Shapes.{fits_place, array_shape}
+use Rattle.array.proofs.Shapes.{fits_place}
 use Rattle.array.proofs.Decays.{all_decayed}
+use Rattle.array.proofs.Promising.{array_after, promised, beneath}
 
 module _ (k : Arithmetic) (l : Lawful k) (x : Coefficients) (s t : Table) (j p : ℕ) where
   -- A word that the cells tell is the array's, and a lost one is of a blank cell.
@@ -40,10 +40,6 @@ module _ {S P : Type 0} (table : S → Table) (sound : S → Type 0) (k : Arithm
   abbrev x : Coefficients
   x = coefficients before.plan
 
-  -- the array after a call that changed the shelf below
-  abbrev after : Array S P
-  after = record { below = below; plan = before.plan }
-
   module _ (none : refuses_read j p (array_table table k coefficients before) ≡ None) (found : Finds table sound k x j p before.below below ⊤ r) where
     there : (j < (array_table table k coefficients before).bays) × (p < (array_table table k coefficients before).places)
     there = cell_fit _ _ j p none
@@ -54,14 +50,11 @@ module _ {S P : Type 0} (table : S → Table) (sound : S → Type 0) (k : Arithm
         let f = fits_place k x (table before.below) p here in
         found.1 ordered f.match (let e = f.own_bays in let b = f.bays in omega arith) (let e = f.own_places in omega arith) tt
 
-    pub read_promised : ArrayOutcome table sound k coefficients before after (refuses_read j p) (Read j p) r
+    pub read_promised : ArrayOutcome table sound k coefficients before (array_after table sound k coefficients before (refuses_read j p) none below) (refuses_read j p) (Read j p) r
     read_promised =
-        done (array_table table k coefficients before) (array_table table k coefficients after) (ArrayOrder table sound k coefficients before) (ArrayOrder table sound k coefficients after) (refuses_read j p (array_table table k coefficients before)) (Read j p) r none
-        (array_shape k x (table before.below) (table below) found.0)
-        (λ ordered.
-        let (sound_after, is) = found_so ordered in
-        let (order_after, read) = reads k l x (table before.below) (table below) j p there.0 there.1 ordered.1 r is in
-        ((sound_after, order_after), read))
+        promised table sound k coefficients before (refuses_read j p) none below (Read j p) r found.0
+        (λ ordered. (found_so ordered).0)
+        (λ ordered. reads k l x (table before.below) (table below) j p there.0 there.1 ordered.1 r (found_so ordered).1)
 
-    pub read_below : Beneath table sound k coefficients before after (refuses_read j p) ReadBelow
-    read_below = (refl, subst (λ o. DoneBelow o before after (ArrayOrder table sound k coefficients before → ReadBelow k x (table before.below) (table below))) (sym none) (λ ordered. (found_so ordered).1.rest))
+    pub read_below : Beneath table sound k coefficients before (array_after table sound k coefficients before (refuses_read j p) none below) (refuses_read j p) ReadBelow
+    read_below = beneath table sound k coefficients before (refuses_read j p) none below ReadBelow (λ ordered. (found_so ordered).1.rest)

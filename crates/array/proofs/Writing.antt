@@ -12,20 +12,21 @@ use Rattle.plan.proofs.Rows.{row-codes}
 use Rattle.plan.proofs.Vectors.{vector-set}
 use Rattle.shelf.specs.declared.refusal.Refusal.{Refusal}
 use Rattle.shelf.specs.declared.refusal.Refusal.TheVariants.{Lost}
-use Rattle.shelf.specs.Table.{Table, Cell, blank, holds, SameShape, Decayed, Kept}
+use Rattle.shelf.specs.Table.{Table, Cell, blank, holds, Decayed, Kept}
 use Rattle.shelf.specs.Calls.{Set, Written, WriteAnswer, NoCell, ThisCell, ThisPlace, refuses_word}
-use Rattle.shelf.proofs.Settling.{done, shape_trans, decayed_trans, decayed_more}
+use Rattle.shelf.proofs.Settling.{shape_trans, decayed_trans, decayed_more}
 use Rattle.shelf.proofs.Words.{word_fit}
 use Rattle.array.specs.declared.coded.Array.{Array}
 use Rattle.array.specs.Decoding.{matched, Agrees, AllowsOne, decoded, InOrder}
 use Rattle.array.specs.Finding.{Found, Finds}
 use Rattle.array.specs.Moving.{Rewritten, Rewrites, rewritten}
-use Rattle.array.specs.Tables.{array_table, ArrayOrder, ArrayOutcome, DoneBelow, Beneath}
+use Rattle.array.specs.Tables.{array_table, ArrayOrder, ArrayOutcome, Beneath}
 use Rattle.array.specs.Changes.{WriteBelow}
 use Rattle.array.proofs.Cells.{cases_cell, holds_all, one_holds, more_blank}
 use Rattle.array.proofs.Shapes.{fits_place, array_shape, array_limit, matched_same}
 use Rattle.array.proofs.Decay.{kept_place, agrees_still, kept_cell}
 use Rattle.array.proofs.Decays.{cells_still, order_still, array_decayed, all_decayed}
+use Rattle.array.proofs.Promising.{array_after, promised, beneath}
 use Rattle.array.proofs.Rewriting.{kept_becomes, rewritten_agrees, agreeing_codes}
 
 -- What was found before it was rewritten: nothing else changed meanwhile.
@@ -110,9 +111,6 @@ module _ {S P : Type 0} (table : S → Table) (sound : S → Type 0) (k : Arithm
   abbrev s : Table
   s = table before.below
 
-  abbrev after : S → Array S P
-  after below = record { below = below; plan = before.plan }
-
   -- what is known of a write that is not refused
   record Known : Type 0 where
     bay : j < x.n
@@ -135,36 +133,28 @@ module _ {S P : Type 0} (table : S → Table) (sound : S → Type 0) (k : Arithm
         place = let e = f.own_places in omega arith;
       }
 
-  -- from any promise below to the array's two clauses
-  module _ (below : S) (r : Result Unit Refusal) (same : SameShape s (table below))
-      (kept : ArrayOrder table sound k coefficients before → ArrayOrder table sound k coefficients (after below) × Written j p new (decoded k x s) (decoded k x (table below)) r) where
-    promised : ArrayOutcome table sound k coefficients before (after below) (refuses_word j p new) (Written j p new) r
-    promised =
-        done (array_table table k coefficients before) (array_table table k coefficients (after below)) (ArrayOrder table sound k coefficients before) (ArrayOrder table sound k coefficients (after below)) (refuses_word j p new (array_table table k coefficients before)) (Written j p new) r none
-        (array_shape k x s (table below) same) kept
-
-  beneath : (below : S) (r : Result Unit Refusal) → (ArrayOrder table sound k coefficients before → WriteBelow j p new r k x s (table below)) → Beneath table sound k coefficients before (after below) (refuses_word j p new) (WriteBelow j p new r)
-  beneath below r changes = (refl, subst (λ o. DoneBelow o before (after below) (ArrayOrder table sound k coefficients before → WriteBelow j p new r k x s (table below))) (sym none) changes)
-
   module _ (below : S) (r : Result ℕ Refusal) (found : Finds table sound k x j p before.below below ⊤ r) where
     found_so : ArrayOrder table sound k coefficients before → sound below × Found k x j p s (table below) r
     found_so ordered =
         let h = known in
         found.1 ordered.0 h.match (let b = h.bay in let e = h.bays in omega arith) h.place tt
 
-  -- the old word is lost
-  pub lost_promised : (below : S) (e : Refusal) → Finds table sound k x j p before.below below ⊤ (Err e) → ArrayOutcome table sound k coefficients before (after below) (refuses_word j p new) (Written j p new) (Err e)
+  -- the array over the shelf below as it is then
+  abbrev then : S → Array S P
+  then below = array_after table sound k coefficients before (refuses_word j p new) none below
+
+  -- The old word is lost.
+  pub lost_promised : (below : S) (e : Refusal) → Finds table sound k x j p before.below below ⊤ (Err e) → ArrayOutcome table sound k coefficients before (then below) (refuses_word j p new) (Written j p new) (Err e)
   lost_promised below e found =
-      promised below (Err e) found.0
-      (λ ordered.
-      let (sound_after, is) = found_so below (Err e) found ordered in
-      let (order, wrote) = lost_write k l x s (table below) j p new known.here known.bay ordered.1 e is in
-      ((sound_after, order), wrote))
+      promised table sound k coefficients before (refuses_word j p new) none below (Written j p new) (Err e) found.0
+      (λ ordered. (found_so below (Err e) found ordered).0)
+      (λ ordered. lost_write k l x s (table below) j p new known.here known.bay ordered.1 e (found_so below (Err e) found ordered).1)
 
-  pub lost_below : (below : S) (e : Refusal) → Finds table sound k x j p before.below below ⊤ (Err e) → Beneath table sound k coefficients before (after below) (refuses_word j p new) (WriteBelow j p new (Err e))
-  lost_below below e found = beneath below (Err e) (λ ordered. (found_so below (Err e) found ordered).1.rest)
+  pub lost_below : (below : S) (e : Refusal) → Finds table sound k x j p before.below below ⊤ (Err e) → Beneath table sound k coefficients before (then below) (refuses_word j p new) (WriteBelow j p new (Err e))
+  lost_below below e found =
+      beneath table sound k coefficients before (refuses_word j p new) none below (WriteBelow j p new (Err e)) (λ ordered. (found_so below (Err e) found ordered).1.rest)
 
-  -- the old word is known
+  -- The old word is known.
   module _ (middle below : S) (old : ℕ) (found : Finds table sound k x j p before.below middle ⊤ (Ok old)) (rewrites : Rewrites table sound k x j p old new middle below) where
     wrote_so : ArrayOrder table sound k coefficients before → sound below × AllowsOne k x s j p old × Rewritten k x j p old new s (table below)
     wrote_so ordered =
@@ -178,13 +168,11 @@ module _ {S P : Type 0} (table : S → Table) (sound : S → Type 0) (k : Arithm
         (agreeing_codes k l x fit (table middle) p v (agrees_still k x s (table middle) p kept v hv)) in
         (last, ((v, hv, gave), is.answer), rewritten_from k x j p old new s (table middle) (table below) is.rest h.bays h.place w)
 
-    pub kept_promised : ArrayOutcome table sound k coefficients before (after below) (refuses_word j p new) (Written j p new) (Ok tt)
+    pub kept_promised : ArrayOutcome table sound k coefficients before (then below) (refuses_word j p new) (Written j p new) (Ok tt)
     kept_promised =
-        promised below (Ok tt) (shape_trans s (table middle) (table below) found.0 rewrites.0)
-        (λ ordered.
-        let (last, one, w) = wrote_so ordered in
-        let (order, wrote) = writes k l x fit s (table below) j p old new known.bay known.low one w ordered.1 in
-        ((last, order), wrote))
+        promised table sound k coefficients before (refuses_word j p new) none below (Written j p new) (Ok tt) (shape_trans s (table middle) (table below) found.0 rewrites.0)
+        (λ ordered. (wrote_so ordered).0)
+        (λ ordered. let (last, one, w) = wrote_so ordered in writes k l x fit s (table below) j p old new known.bay known.low one w ordered.1)
 
-    pub kept_below : Beneath table sound k coefficients before (after below) (refuses_word j p new) (WriteBelow j p new (Ok tt))
-    kept_below = beneath below (Ok tt) (λ ordered. let (last, one, w) = wrote_so ordered in (old, one, w))
+    pub kept_below : Beneath table sound k coefficients before (then below) (refuses_word j p new) (WriteBelow j p new (Ok tt))
+    kept_below = beneath table sound k coefficients before (refuses_word j p new) none below (WriteBelow j p new (Ok tt)) (λ ordered. let (last, one, w) = wrote_so ordered in (old, one, w))

@@ -16,11 +16,11 @@ use Rattle.array.proofs.Cells.{not_both}
 use Rattle.history.specs.declared.call.Call.{Call}
 use Rattle.history.specs.declared.call.Call.TheVariants.{Read, Write, Lay}
 use Rattle.history.specs.declared.call.Answer.{Answer}
-use Rattle.history.specs.declared.call.Answer.TheVariants.{Word, Done, Bits}
 use Rattle.history.specs.Book.{Book, empty, enter}
 use Rattle.history.specs.Laws.{Answered, Changed, RightRead, RightWrite, RightLay, Filled, Empty, ShelfLaw, ArrayLaw, ArrayChange}
 use Rattle.history.specs.Turns.{TurnBelow, ArrayTurn}
 use Rattle.history.specs.Runs.{Stands}
+use Rattle.history.proofs.Sorting.{of_read, of_write, of_lay, read_also, write_also, lay_also}
 use Rattle.history.proofs.Shelfwise.{shelf_step}
 
 -- an answer that is right in one way, where it need be right, is right in another
@@ -43,17 +43,14 @@ module _ (k : Arithmetic) (l : Lawful k) (x : Coefficients) (s t : Table) (befor
   lay_below (Err e) h = h
 
   law_below : (c : Call) (a : Answer) → ShelfLaw book (decoded k x s) c a (decoded k x t) → ArrayLaw k x book s c a t
-  law_below (Read b p) (Word r) h = answered_also (refuses_read b p (decoded k x s)) r _ _ (λ is. read_below b p (cell_fit (decoded k x s).bays (decoded k x s).places b p is) r) h
-  law_below (Read b p) (Done r) h = h
-  law_below (Read b p) (Bits r) h = h
-  law_below (Write b p w) (Word r) h = h
-  law_below (Write b p w) (Done r) h =
-      answered_also (refuses_word b p w (decoded k x s)) r _ _ (λ is.
-      let (d, there, low) = word_fit (decoded k x s).bays (decoded k x s).places (decoded k x s).limit b p w is in write_below b p (d, there) r) h
-  law_below (Write b p w) (Bits r) h = h
-  law_below (Lay p ws) (Word r) h = h
-  law_below (Lay p ws) (Done r) h = h
-  law_below (Lay p ws) (Bits r) h = answered_also (refuses_lay p (vec_items ws) (decoded k x s)) r _ _ (λ is. lay_below r) h
+  law_below (Read b p) a h =
+      read_also _ _ a
+      (λ r. answered_also (refuses_read b p (decoded k x s)) r _ _ (λ is. read_below b p (cell_fit (decoded k x s).bays (decoded k x s).places b p is) r)) h
+  law_below (Write b p w) a h =
+      write_also _ _ a
+      (λ r. answered_also (refuses_word b p w (decoded k x s)) r _ _ (λ is.
+      let (d, there, low) = word_fit (decoded k x s).bays (decoded k x s).places (decoded k x s).limit b p w is in write_below b p (d, there) r)) h
+  law_below (Lay p ws) a h = lay_also _ _ a (λ r. answered_also (refuses_lay p (vec_items ws) (decoded k x s)) r _ _ (λ is. lay_below r)) h
 
 module _ {S P : Type 0} (table : S → Table) (sound : S → Type 0) (k : Arithmetic) (l : Lawful k) (coefficients : P → Coefficients) (before after : Array S P) where
   unchanged : (s : Table) → Unchanged s s
@@ -65,26 +62,15 @@ module _ {S P : Type 0} (table : S → Table) (sound : S → Type 0) (k : Arithm
   made None change ordered h = h ordered
 
   turn_change : (c : Call) (a : Answer) → TurnBelow table sound k coefficients before after c a → ArrayOrder table sound k coefficients before → ArrayChange k (coefficients before.plan) c a (table before.below) (table after.below)
-  turn_change (Read b p) (Word r) h ordered = made _ _ ordered h.1
-  turn_change (Read b p) (Done r) h ordered = absurd h
-  turn_change (Read b p) (Bits r) h ordered = absurd h
-  turn_change (Write b p w) (Word r) h ordered = absurd h
-  turn_change (Write b p w) (Done r) h ordered = made _ _ ordered h.1
-  turn_change (Write b p w) (Bits r) h ordered = absurd h
-  turn_change (Lay p ws) (Word r) h ordered = absurd h
-  turn_change (Lay p ws) (Done r) h ordered = absurd h
-  turn_change (Lay p ws) (Bits r) h ordered = made _ _ ordered h.1
+  turn_change (Read b p) a h ordered = read_also _ _ a (λ r beneath. made _ _ ordered beneath.1) h
+  turn_change (Write b p w) a h ordered = write_also _ _ a (λ r beneath. made _ _ ordered beneath.1) h
+  turn_change (Lay p ws) a h ordered = lay_also _ _ a (λ r beneath. made _ _ ordered beneath.1) h
 
+  -- The plan stays.
   pub turn_plan : (c : Call) (a : Answer) → TurnBelow table sound k coefficients before after c a → after.plan ≡ before.plan
-  turn_plan (Read b p) (Word r) h = h.0
-  turn_plan (Read b p) (Done r) h = absurd h
-  turn_plan (Read b p) (Bits r) h = absurd h
-  turn_plan (Write b p w) (Word r) h = absurd h
-  turn_plan (Write b p w) (Done r) h = h.0
-  turn_plan (Write b p w) (Bits r) h = absurd h
-  turn_plan (Lay p ws) (Word r) h = absurd h
-  turn_plan (Lay p ws) (Done r) h = absurd h
-  turn_plan (Lay p ws) (Bits r) h = h.0
+  turn_plan (Read b p) a h = let (r, is, beneath) = of_read _ a h in beneath.0
+  turn_plan (Write b p w) a h = let (r, is, beneath) = of_write _ a h in beneath.0
+  turn_plan (Lay p ws) a h = let (r, is, beneath) = of_lay _ a h in beneath.0
 
   abbrev x : Coefficients
   x = coefficients before.plan

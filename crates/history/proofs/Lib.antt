@@ -1,3 +1,4 @@
+pub mod Sorting
 pub mod Backing
 pub mod Shelfwise
 pub mod Chains

@@ -5,18 +5,18 @@ use Rattle.std.proofs.lemmas.Bool.{cond-false}
 use Rattle.shelf.specs.declared.refusal.Refusal.{Refusal}
 use Rattle.shelf.specs.declared.refusal.Refusal.TheVariants.{Lost}
 use Rattle.shelf.specs.Table.{Table, Cell, blank, holds, SameShape}
-use Rattle.shelf.specs.Calls.{Settled, ReadAnswer, WriteAnswer, Written, LayAnswer, refuses_read, refuses_word, refuses_lay}
+use Rattle.shelf.specs.Calls.{Settled, Outcome, ReadAnswer, WriteAnswer, Written, LayAnswer, refuses_read, refuses_word, refuses_lay}
 use Rattle.shelf.specs.Calls.{Read as Reads}
 use Rattle.shelf.proofs.Words.{cell_fit, word_fit, lay_fit}
 use Rattle.array.proofs.Cells.{not_both, same_word}
 use Rattle.history.specs.declared.call.Call.{Call}
 use Rattle.history.specs.declared.call.Call.TheVariants.{Read, Write, Lay}
 use Rattle.history.specs.declared.call.Answer.{Answer}
-use Rattle.history.specs.declared.call.Answer.TheVariants.{Word, Done, Bits}
 use Rattle.history.specs.Book.{Book, put, is_lost, after_write, after_lay, enter}
 use Rattle.history.specs.Laws.{Answered, Changed, RightRead, RightWrite, RightLay, Filled, Empty, ShelfLaw, ShelfChange}
 use Rattle.history.specs.Turns.{ShelfTurn}
 use Rattle.history.specs.Runs.{Backed, Stands}
+use Rattle.history.proofs.Sorting.{of_read, of_write, of_lay}
 use Rattle.history.proofs.Backing.{backed_decayed, backed_unchanged, backed_put, backed_laid, word_not_lost}
 
 module _ (book : Book) (s t : Table) (P Q : Type 0) (sound : P) (backed : Backed book s) where
@@ -81,18 +81,23 @@ module _ (book : Book) (s t : Table) (P Q : Type 0) (sound : P) (backed : Backed
         (tt, laid, after, backed_laid book s t backed p ws bits (lay_fit s.bays s.places s.limit p ws is).count laid)
     lay_step None is (Err e) settled = absurd (settled sound).1
 
--- One call keeps the law, makes its change, and leaves a state in order that the book then backs.
+-- What a call comes to: it keeps the law, makes its change, and leaves a state in order that the book then backs.
+abbrev pub Comes : {Self : Type 0} → (Self → Table) → (Self → Type 0) → Self → Self → Book → Call → Answer → Type 0
+Comes table sound before after book c a =
+    SameShape (table before) (table after) × ShelfLaw book (table before) c a (table after) × ShelfChange c a (table before) (table after) × sound after
+    × Backed (enter c a book) (table after)
+
 pub shelf_step : {Self : Type 0} (table : Self → Table) (sound : Self → Type 0) (before after : Self) (c : Call) (a : Answer) → ShelfTurn table sound before after c a → (book : Book) → Stands table sound book before
-    → SameShape (table before) (table after) × ShelfLaw book (table before) c a (table after) × ShelfChange c a (table before) (table after) × sound after × Backed (enter c a book) (table after)
-shelf_step table sound before after (Read b p) (Word r) turn book (ordered, backed) =
-    let (law, change, after, entered) = read_step book (table before) (table after) (sound before) (sound after) ordered backed b p (refuses_read b p (table before)) refl r turn.1 in (turn.0, law, change, after, entered)
-shelf_step table sound before after (Read b p) (Done r) turn book stands = absurd turn
-shelf_step table sound before after (Read b p) (Bits r) turn book stands = absurd turn
-shelf_step table sound before after (Write b p w) (Word r) turn book stands = absurd turn
-shelf_step table sound before after (Write b p w) (Done r) turn book (ordered, backed) =
-    let (law, change, after, entered) = write_step book (table before) (table after) (sound before) (sound after) ordered backed b p w (refuses_word b p w (table before)) refl r turn.1 in (turn.0, law, change, after, entered)
-shelf_step table sound before after (Write b p w) (Bits r) turn book stands = absurd turn
-shelf_step table sound before after (Lay p ws) (Word r) turn book stands = absurd turn
-shelf_step table sound before after (Lay p ws) (Done r) turn book stands = absurd turn
-shelf_step table sound before after (Lay p ws) (Bits r) turn book (ordered, backed) =
-    let (law, change, after, entered) = lay_step book (table before) (table after) (sound before) (sound after) ordered backed p (vec_items ws) (refuses_lay p (vec_items ws) (table before)) refl r turn.1 in (turn.0, law, change, after, entered)
+    → Comes table sound before after book c a
+shelf_step table sound before after (Read b p) a turn book (ordered, backed) =
+    let (r, is, (same, settled)) = of_read (Outcome table sound before after (refuses_read b p) (Reads b p)) a turn in
+    let (law, change, still, entered) = read_step book (table before) (table after) (sound before) (sound after) ordered backed b p (refuses_read b p (table before)) refl r settled in
+    subst (Comes table sound before after book (Read b p)) (sym is) (same, law, change, still, entered)
+shelf_step table sound before after (Write b p w) a turn book (ordered, backed) =
+    let (r, is, (same, settled)) = of_write (Outcome table sound before after (refuses_word b p w) (Written b p w)) a turn in
+    let (law, change, still, entered) = write_step book (table before) (table after) (sound before) (sound after) ordered backed b p w (refuses_word b p w (table before)) refl r settled in
+    subst (Comes table sound before after book (Write b p w)) (sym is) (same, law, change, still, entered)
+shelf_step table sound before after (Lay p ws) a turn book (ordered, backed) =
+    let (r, is, (same, settled)) = of_lay (Outcome table sound before after (refuses_lay p (vec_items ws)) (LayAnswer p (vec_items ws))) a turn in
+    let (law, change, still, entered) = lay_step book (table before) (table after) (sound before) (sound after) ordered backed p (vec_items ws) (refuses_lay p (vec_items ws) (table before)) refl r settled in
+    subst (Comes table sound before after book (Lay p ws)) (sym is) (same, law, change, still, entered)

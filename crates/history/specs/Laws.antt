@@ -12,8 +12,8 @@ use Rattle.array.specs.Changes.{ReadBelow, WriteBelow, LayBelow}
 use Rattle.history.specs.declared.call.Call.{Call}
 use Rattle.history.specs.declared.call.Call.TheVariants.{Read, Write, Lay}
 use Rattle.history.specs.declared.call.Answer.{Answer}
-use Rattle.history.specs.declared.call.Answer.TheVariants.{Word, Done, Bits}
 use Rattle.history.specs.Book.{Book}
+use Rattle.history.specs.Kinds.{OfRead, OfWrite, OfLay}
 
 -- a call that is refused for its arguments answers the refusal; any other answers as it should
 abbrev pub Answered : {A : Type 0} → Option Refusal → Result A Refusal → Type 0 → Type 0
@@ -46,15 +46,9 @@ module _ (own : Table → Table) (Sure : Table → ℕ → ℕ → ℕ → Type 
 
   -- Each call is answered by an answer of its kind.
   abbrev pub Law : Book → Table → Call → Answer → Table → Type 0
-  Law book s (Read b p) (Word r) t = Answered (refuses_read b p (own s)) r (RightRead book s b p r t)
-  Law book s (Read b p) (Done r) t = ⊥
-  Law book s (Read b p) (Bits r) t = ⊥
-  Law book s (Write b p w) (Word r) t = ⊥
-  Law book s (Write b p w) (Done r) t = Answered (refuses_word b p w (own s)) r (RightWrite book s b p r t)
-  Law book s (Write b p w) (Bits r) t = ⊥
-  Law book s (Lay p ws) (Word r) t = ⊥
-  Law book s (Lay p ws) (Done r) t = ⊥
-  Law book s (Lay p ws) (Bits r) t = Answered (refuses_lay p (vec_items ws) (own s)) r (RightLay r)
+  Law book s (Read b p) a t = OfRead (λ r. Answered (refuses_read b p (own s)) r (RightRead book s b p r t)) a
+  Law book s (Write b p w) a t = OfWrite (λ r. Answered (refuses_word b p w (own s)) r (RightWrite book s b p r t)) a
+  Law book s (Lay p ws) a t = OfLay (λ r. Answered (refuses_lay p (vec_items ws) (own s)) r (RightLay r)) a
 
 -- A shelf: its cells are sure of the word that the cell holds, and not sure where it is blank.
 abbrev pub Filled : Table → ℕ → ℕ → ℕ → Type 0
@@ -68,15 +62,9 @@ ShelfLaw book s c a t = Law (λ t. t) Filled Empty book s c a t
 
 -- its cells change as the call promises
 abbrev pub ShelfChange : Call → Answer → Table → Table → Type 0
-ShelfChange (Read b p) (Word r) s t = Changed (refuses_read b p s) s t (Reads b p s t r)
-ShelfChange (Read b p) (Done r) s t = ⊥
-ShelfChange (Read b p) (Bits r) s t = ⊥
-ShelfChange (Write b p w) (Word r) s t = ⊥
-ShelfChange (Write b p w) (Done r) s t = Changed (refuses_word b p w s) s t (Written b p w s t r)
-ShelfChange (Write b p w) (Bits r) s t = ⊥
-ShelfChange (Lay p ws) (Word r) s t = ⊥
-ShelfChange (Lay p ws) (Done r) s t = ⊥
-ShelfChange (Lay p ws) (Bits r) s t = Changed (refuses_lay p (vec_items ws) s) s t (LayAnswer p (vec_items ws) s t r)
+ShelfChange (Read b p) a s t = OfRead (λ r. Changed (refuses_read b p s) s t (Reads b p s t r)) a
+ShelfChange (Write b p w) a s t = OfWrite (λ r. Changed (refuses_word b p w s) s t (Written b p w s t r)) a
+ShelfChange (Lay p ws) a s t = OfLay (λ r. Changed (refuses_lay p (vec_items ws) s) s t (LayAnswer p (vec_items ws) s t r)) a
 
 -- An array, with s and t the tables below: the cells below are sure of the one value that they allow, and not sure where they allow
 -- more than one.
@@ -86,12 +74,6 @@ module _ (k : Arithmetic) (x : Coefficients) where
 
   -- the cells below change as the array's calls say
   abbrev pub ArrayChange : Call → Answer → Table → Table → Type 0
-  ArrayChange (Read b p) (Word r) s t = Changed (refuses_read b p (decoded k x s)) s t (ReadBelow k x s t)
-  ArrayChange (Read b p) (Done r) s t = ⊥
-  ArrayChange (Read b p) (Bits r) s t = ⊥
-  ArrayChange (Write b p w) (Word r) s t = ⊥
-  ArrayChange (Write b p w) (Done r) s t = Changed (refuses_word b p w (decoded k x s)) s t (WriteBelow b p w r k x s t)
-  ArrayChange (Write b p w) (Bits r) s t = ⊥
-  ArrayChange (Lay p ws) (Word r) s t = ⊥
-  ArrayChange (Lay p ws) (Done r) s t = ⊥
-  ArrayChange (Lay p ws) (Bits r) s t = Changed (refuses_lay p (vec_items ws) (decoded k x s)) s t (LayBelow p (vec_items ws) r k x s t)
+  ArrayChange (Read b p) a s t = OfRead (λ r. Changed (refuses_read b p (decoded k x s)) s t (ReadBelow k x s t)) a
+  ArrayChange (Write b p w) a s t = OfWrite (λ r. Changed (refuses_word b p w (decoded k x s)) s t (WriteBelow b p w r k x s t)) a
+  ArrayChange (Lay p ws) a s t = OfLay (λ r. Changed (refuses_lay p (vec_items ws) (decoded k x s)) s t (LayBelow p (vec_items ws) r k x s t)) a
