@@ -35,7 +35,7 @@ Stands table sound book a = sound a × Backed book (table a)
 abbrev pub RunsShelf : {Self : Type 0} → (Self → Table) → (Self → Type 0) → Self → Self → List Call → List Answer → List Answer → Result Unit Refusal → Type 0
 RunsShelf table sound before after calls answers answers' r =
     Ran (run_refusal calls answers) before after answers answers' r
-    ((book : Book) → Stands table sound book before → ShelfHistory book (table before) calls answers' (table after) × Stands table sound (after_calls book calls answers') after)
+    ((book : Book) → Stands table sound book before → ShelfHistory table book before calls answers' after × Stands table sound (after_calls book calls answers') after)
 
 module _ {S P : Type 0} (table : S → Table) (sound : S → Type 0) (k : Arithmetic) (coefficients : P → Coefficients) (before after : Array S P) (calls : List Call) where
   -- the same of an array, whose plan stays
@@ -44,11 +44,11 @@ module _ {S P : Type 0} (table : S → Table) (sound : S → Type 0) (k : Arithm
       Ran (run_refusal calls answers) before after answers answers' r
       ((after.plan ≡ before.plan)
       × ((book : Book) → Stands (array_table table k coefficients) (ArrayOrder table sound k coefficients) book before →
-      ArrayHistory k (coefficients before.plan) book (table before.below) calls answers' (table after.below)
+      ArrayHistory table k (coefficients before.plan) book before calls answers' after
       × Stands (array_table table k coefficients) (ArrayOrder table sound k coefficients) (after_calls book calls answers') after))
 
   -- The law of a new array, over a shelf in order whose cells are all blank: its calls and their answers are a history from the empty
   -- book.
   abbrev pub RunsNew : List Answer → Result Unit Refusal → Type 0
   RunsNew answers' r =
-      r ≡ Ok tt → sound before.below → AllBlank (table before.below) → ArrayHistory k (coefficients before.plan) empty (table before.below) calls answers' (table after.below)
+      r ≡ Ok tt → sound before.below → AllBlank (table before.below) → ArrayHistory table k (coefficients before.plan) empty before calls answers' after

@@ -7,4 +7,4 @@ abbrev pub invariant-loop-i : goal.invariant-loop-i
 invariant-loop-i g l =
     let table = g.S.Shelf.table in
     let sound = g.S.Shelf.sound in
-    RunSoFar ShelfLaw ShelfChange (λ book. Stands table sound book l.fn.shelf) (λ book. Stands table sound book l.shelf) (table l.fn.shelf) (table l.shelf) l.i l.calls l.answers
+    RunSoFar table ShelfLaw ShelfChange (λ book. Stands table sound book l.fn.shelf) (λ book. Stands table sound book l.shelf) l.fn.shelf l.shelf l.i l.calls l.answers

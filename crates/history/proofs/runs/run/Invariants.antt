@@ -12,4 +12,4 @@ invariant-loop-i g l =
     let table = array_table g.S.Shelf.table k g.P.Plan.coefficients in
     let sound = ArrayOrder g.S.Shelf.table g.S.Shelf.sound k g.P.Plan.coefficients in
     (l.array.plan ≡ l.fn.array.plan)
-    × RunSoFar (ArrayLaw k x) (ArrayChange k x) (λ book. Stands table sound book l.fn.array) (λ book. Stands table sound book l.array) (g.S.Shelf.table l.fn.array.below) (g.S.Shelf.table l.array.below) l.i l.calls l.answers
+    × RunSoFar (λ a. g.S.Shelf.table a.below) (ArrayLaw k x) (ArrayChange k x) (λ book. Stands table sound book l.fn.array) (λ book. Stands table sound book l.array) l.fn.array l.array l.i l.calls l.answers
