@@ -13,3 +13,6 @@ pub mod Reading
 pub mod Writing
 pub mod Adding
 pub mod Lays
+pub mod Mends
+pub mod Serving
+pub mod Sweeping

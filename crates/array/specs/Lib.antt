@@ -3,3 +3,4 @@ pub mod Finding
 pub mod Moving
 pub mod Changes
 pub mod Tables
+pub mod Service

@@ -18,8 +18,8 @@ use shelf::{Refusal, Shape, Shelf};
 // bays and no places.
 #[derive(Drop)]
 pub struct Array<S, P> {
-    below: S,
-    plan: P,
+    pub(crate) below: S,
+    pub(crate) plan: P,
 }
 
 impl<S, P> Array<S, P> {

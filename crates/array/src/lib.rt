@@ -4,6 +4,9 @@
 mod coded;
 mod finding;
 mod laying;
+mod mending;
 mod moving;
+mod service;
 
 pub use crate::coded::Array;
+pub use crate::mending::Mending;
