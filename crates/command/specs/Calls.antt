@@ -6,7 +6,7 @@ use Rattle.command.specs.Arguments.{exactly, one_and_rest, taking}
 use Rattle.command.specs.Lines.{line_means, present}
 use Rattle.command.specs.Outcome.{Answers}
 use Rattle.command.specs.declared.calls.ShelfCall.{ShelfCall}
-use Rattle.command.specs.declared.calls.ShelfCall.TheVariants.{Stop, Read, Write, Lay, Patch, Exchange, Fetch, Survey, End}
+use Rattle.command.specs.declared.calls.ShelfCall.TheVariants.{Stop, Read, Write, Lay, Patch, Exchange, Mend, Sweep, Below, Fetch, Survey, End}
 use Rattle.command.specs.declared.command.Fault.{Fault}
 use Rattle.command.specs.declared.command.Fault.TheVariants.{UnknownCommand}
 
@@ -18,6 +18,9 @@ pub data Call : Type 0 where
   lay : ℕ → List ℕ → Call
   patch : ℕ → ℕ → ℕ → Call
   exchange : ℕ → Call
+  mend : ℕ → ℕ → Call
+  sweep : ℕ → ℕ → ℕ → Call
+  below : ℕ → ℕ → Call
   fetch : ℕ → ℕ → ℕ → Call
   survey : ℕ → ℕ → Call
   end : Call
@@ -30,6 +33,9 @@ called (Write bay place word) = write bay place word
 called (Lay place words) = lay place (vec_items words)
 called (Patch bay place word) = patch bay place word
 called (Exchange bay) = exchange bay
+called (Mend bay place) = mend bay place
+called (Sweep bay first count) = sweep bay first count
+called (Below bay place) = below bay place
 called (Fetch bay first count) = fetch bay first count
 called (Survey first count) = survey first count
 called End = end
@@ -60,6 +66,18 @@ patching ts = taking (exactly 3) 2 ts (λ n. patch (slice_index n 0) (slice_inde
 abbrev pub exchanging : List (List ℕ) → Result Call Fault
 exchanging ts = taking (exactly 1) 2 ts (λ n. exchange (slice_index n 0))
 
+-- mend BAY PLACE
+abbrev pub mending : List (List ℕ) → Result Call Fault
+mending ts = taking (exactly 2) 2 ts (λ n. mend (slice_index n 0) (slice_index n 1))
+
+-- sweep BAY FIRST COUNT
+abbrev pub sweeping : List (List ℕ) → Result Call Fault
+sweeping ts = taking (exactly 3) 2 ts (λ n. sweep (slice_index n 0) (slice_index n 1) (slice_index n 2))
+
+-- below BAY PLACE
+abbrev pub cell_below : List (List ℕ) → Result Call Fault
+cell_below ts = taking (exactly 2) 2 ts (λ n. below (slice_index n 0) (slice_index n 1))
+
 -- fetch BAY FIRST COUNT
 abbrev pub fetching : List (List ℕ) → Result Call Fault
 fetching ts = taking (exactly 3) 2 ts (λ n. fetch (slice_index n 0) (slice_index n 1) (slice_index n 2))
@@ -81,10 +99,13 @@ call_named name ts =
     (cond (bytes_eq name (codes "lay")) (shelf_laying ts)
     (cond (bytes_eq name (codes "patch")) (patching ts)
     (cond (bytes_eq name (codes "exchange")) (exchanging ts)
+    (cond (bytes_eq name (codes "mend")) (mending ts)
+    (cond (bytes_eq name (codes "sweep")) (sweeping ts)
+    (cond (bytes_eq name (codes "below")) (cell_below ts)
     (cond (bytes_eq name (codes "fetch")) (fetching ts)
     (cond (bytes_eq name (codes "survey")) (surveying ts)
     (cond (bytes_eq name (codes "end")) (ending ts)
-    (Err UnknownCommand)))))))))
+    (Err UnknownCommand))))))))))))
 
 -- what a line means
 unfoldable pub calling : List ℕ → Result (Option Call) Fault

@@ -23,6 +23,12 @@ pub enum ShelfCall {
     Patch { bay: u32, place: u32, word: u32 },
     // A fresh device in a bay.
     Exchange { bay: u32 },
+    // The word that the others tell, in a cell of a bay below an array.
+    Mend { bay: u32, place: u32 },
+    // The same in so many places of the bay, from the first on.
+    Sweep { bay: u32, first: u32, count: u32 },
+    // The word of a cell of a bay below an array.
+    Below { bay: u32, place: u32 },
     // The words of so many places of a bay, from the first on.
     Fetch { bay: u32, first: u32, count: u32 },
     // The lost cells of so many places, from the first on.
@@ -71,6 +77,18 @@ fn read_call_named(heap: Global, name: &[u8], arguments: Cursor) -> Result<Shelf
         b"exchange" => {
             let [bay] = read_exactly::<1>(heap, arguments, 2)?;
             Ok(ShelfCall::Exchange { bay })
+        }
+        b"mend" => {
+            let [bay, place] = read_exactly::<2>(heap, arguments, 2)?;
+            Ok(ShelfCall::Mend { bay, place })
+        }
+        b"sweep" => {
+            let [bay, first, count] = read_exactly::<3>(heap, arguments, 2)?;
+            Ok(ShelfCall::Sweep { bay, first, count })
+        }
+        b"below" => {
+            let [bay, place] = read_exactly::<2>(heap, arguments, 2)?;
+            Ok(ShelfCall::Below { bay, place })
         }
         b"fetch" => {
             let [bay, first, count] = read_exactly::<3>(heap, arguments, 2)?;

@@ -20,7 +20,7 @@ use Rattle.history.specs.Book.{Book, empty, enter}
 use Rattle.history.specs.Laws.{Answered, Changed, RightRead, RightWrite, RightLay, Filled, Empty, ShelfLaw, ArrayLaw, ArrayChange}
 use Rattle.history.specs.Turns.{TurnBelow, ArrayTurn}
 use Rattle.history.specs.Runs.{Stands}
-use Rattle.history.proofs.Sorting.{of_read, of_write, of_lay, read_also, write_also, lay_also}
+use Rattle.history.proofs.Sorting.{of_read, of_done, of_lay, read_also, done_also, lay_also}
 use Rattle.history.proofs.Shelfwise.{shelf_step}
 
 -- an answer that is right in one way, where it need be right, is right in another
@@ -47,15 +47,16 @@ module _ (k : Arithmetic) (l : Lawful k) (x : Coefficients) (s t : Table) (befor
       read_also _ _ a
       (λ r. answered_also (refuses_read b p (decoded k x s)) r _ _ (λ is. read_below b p (cell_fit (decoded k x s).bays (decoded k x s).places b p is) r)) h
   law_below (Write b p w) a h =
-      write_also _ _ a
+      done_also _ _ a
       (λ r. answered_also (refuses_word b p w (decoded k x s)) r _ _ (λ is.
       let (d, there, low) = word_fit (decoded k x s).bays (decoded k x s).places (decoded k x s).limit b p w is in write_below b p (d, there) r)) h
   law_below (Lay p ws) a h = lay_also _ _ a (λ r. answered_also (refuses_lay p (vec_items ws) (decoded k x s)) r _ _ (λ is. lay_below r)) h
 
-module _ {S P : Type 0} (table : S → Table) (sound : S → Type 0) (k : Arithmetic) (l : Lawful k) (coefficients : P → Coefficients) (before after : Array S P) where
-  unchanged : (s : Table) → Unchanged s s
-  unchanged s = record { shape = same_shape s; cells = λ b p d there. refl; running = λ b d. refl }
+-- a table beside itself
+pub unchanged : (s : Table) → Unchanged s s
+unchanged s = record { shape = same_shape s; cells = λ b p d there. refl; running = λ b d. refl }
 
+module _ {S P : Type 0} (table : S → Table) (sound : S → Type 0) (k : Arithmetic) (l : Lawful k) (coefficients : P → Coefficients) (before after : Array S P) where
   -- A refused call changes nothing below, and another makes its change.
   made : (o : Option Refusal) (change : Type 0) → ArrayOrder table sound k coefficients before → DoneBelow o before after (ArrayOrder table sound k coefficients before → change) → Changed o (table before.below) (table after.below) change
   made (Some e) change ordered is = subst (λ (a : Array S P). Unchanged (table before.below) (table a.below)) (sym is) (unchanged (table before.below))
@@ -63,13 +64,13 @@ module _ {S P : Type 0} (table : S → Table) (sound : S → Type 0) (k : Arithm
 
   turn_change : (c : Call) (a : Answer) → TurnBelow table sound k coefficients before after c a → ArrayOrder table sound k coefficients before → ArrayChange k (coefficients before.plan) c a (table before.below) (table after.below)
   turn_change (Read b p) a h ordered = read_also _ _ a (λ r beneath. made _ _ ordered beneath.1) h
-  turn_change (Write b p w) a h ordered = write_also _ _ a (λ r beneath. made _ _ ordered beneath.1) h
+  turn_change (Write b p w) a h ordered = done_also _ _ a (λ r beneath. made _ _ ordered beneath.1) h
   turn_change (Lay p ws) a h ordered = lay_also _ _ a (λ r beneath. made _ _ ordered beneath.1) h
 
   -- The plan stays.
   pub turn_plan : (c : Call) (a : Answer) → TurnBelow table sound k coefficients before after c a → after.plan ≡ before.plan
   turn_plan (Read b p) a h = let (r, is, beneath) = of_read _ a h in beneath.0
-  turn_plan (Write b p w) a h = let (r, is, beneath) = of_write _ a h in beneath.0
+  turn_plan (Write b p w) a h = let (r, is, beneath) = of_done _ a h in beneath.0
   turn_plan (Lay p ws) a h = let (r, is, beneath) = of_lay _ a h in beneath.0
 
   abbrev x : Coefficients

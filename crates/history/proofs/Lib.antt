@@ -4,3 +4,4 @@ pub mod Shelfwise
 pub mod Chains
 pub mod Arraywise
 pub mod Booking
+pub mod Servicewise

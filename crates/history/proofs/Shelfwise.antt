@@ -16,7 +16,7 @@ use Rattle.history.specs.Book.{Book, put, is_lost, after_write, after_lay, enter
 use Rattle.history.specs.Laws.{Answered, Changed, RightRead, RightWrite, RightLay, Filled, Empty, ShelfLaw, ShelfChange}
 use Rattle.history.specs.Turns.{ShelfTurn}
 use Rattle.history.specs.Runs.{Backed, Stands}
-use Rattle.history.proofs.Sorting.{of_read, of_write, of_lay}
+use Rattle.history.proofs.Sorting.{of_read, of_done, of_lay}
 use Rattle.history.proofs.Backing.{backed_decayed, backed_unchanged, backed_put, backed_laid, word_not_lost}
 
 module _ (book : Book) (s t : Table) (P Q : Type 0) (sound : P) (backed : Backed book s) where
@@ -94,7 +94,7 @@ shelf_step table sound before after (Read b p) a turn book (ordered, backed) =
     let (law, change, still, entered) = read_step book (table before) (table after) (sound before) (sound after) ordered backed b p (refuses_read b p (table before)) refl r settled in
     subst (Comes table sound before after book (Read b p)) (sym is) (same, law, change, still, entered)
 shelf_step table sound before after (Write b p w) a turn book (ordered, backed) =
-    let (r, is, (same, settled)) = of_write (Outcome table sound before after (refuses_word b p w) (Written b p w)) a turn in
+    let (r, is, (same, settled)) = of_done (Outcome table sound before after (refuses_word b p w) (Written b p w)) a turn in
     let (law, change, still, entered) = write_step book (table before) (table after) (sound before) (sound after) ordered backed b p w (refuses_word b p w (table before)) refl r settled in
     subst (Comes table sound before after book (Write b p w)) (sym is) (same, law, change, still, entered)
 shelf_step table sound before after (Lay p ws) a turn book (ordered, backed) =

@@ -9,12 +9,13 @@ use Rattle.shelf.specs.Table.{Table, holds, AllBlank}
 use Rattle.array.specs.declared.coded.Array.{Array}
 use Rattle.array.specs.Tables.{array_table, ArrayOrder}
 use Rattle.history.specs.declared.call.Call.{Call}
+use Rattle.history.specs.declared.call.Service.{Service}
 use Rattle.history.specs.declared.call.Answer.{Answer}
-use Rattle.history.specs.Book.{Book, empty, after_calls}
-use Rattle.history.specs.History.{ShelfHistory, ArrayHistory}
+use Rattle.history.specs.Book.{Book, empty, enter, enter_service, after_calls}
+use Rattle.history.specs.History.{ShelfHistory, ArrayHistory, ServiceHistory}
 
 -- why a run is refused: its answers are not as many as its calls
-abbrev pub run_refusal : List Call → List Answer → Option Refusal
+abbrev pub run_refusal : {C : Type 0} → List C → List Answer → Option Refusal
 run_refusal calls answers = first_of ((not (length calls == length answers), WrongCount) ∷ [])
 
 -- A refused run changes neither the shelf nor the answers. Any other makes all of its calls.
@@ -35,20 +36,35 @@ Stands table sound book a = sound a × Backed book (table a)
 abbrev pub RunsShelf : {Self : Type 0} → (Self → Table) → (Self → Type 0) → Self → Self → List Call → List Answer → List Answer → Result Unit Refusal → Type 0
 RunsShelf table sound before after calls answers answers' r =
     Ran (run_refusal calls answers) before after answers answers' r
-    ((book : Book) → Stands table sound book before → ShelfHistory table book before calls answers' after × Stands table sound (after_calls book calls answers') after)
+    ((book : Book) → Stands table sound book before → ShelfHistory table book before calls answers' after × Stands table sound (after_calls enter book calls answers') after)
 
-module _ {S P : Type 0} (table : S → Table) (sound : S → Type 0) (k : Arithmetic) (coefficients : P → Coefficients) (before after : Array S P) (calls : List Call) where
-  -- the same of an array, whose plan stays
-  abbrev pub RunsArray : List Answer → List Answer → Result Unit Refusal → Type 0
-  RunsArray answers answers' r =
+module _ {S P : Type 0} (table : S → Table) (sound : S → Type 0) (k : Arithmetic) (coefficients : P → Coefficients) (before after : Array S P) where
+  -- an array in order, with a book that backs it
+  abbrev ArrayStands : Book → Array S P → Type 0
+  ArrayStands book a = Stands (array_table table k coefficients) (ArrayOrder table sound k coefficients) book a
+
+  -- The same of an array, whose plan stays.
+  abbrev pub RunsArray : List Call → List Answer → List Answer → Result Unit Refusal → Type 0
+  RunsArray calls answers answers' r =
       Ran (run_refusal calls answers) before after answers answers' r
       ((after.plan ≡ before.plan)
-      × ((book : Book) → Stands (array_table table k coefficients) (ArrayOrder table sound k coefficients) book before →
-      ArrayHistory table k (coefficients before.plan) book before calls answers' after
-      × Stands (array_table table k coefficients) (ArrayOrder table sound k coefficients) (after_calls book calls answers') after))
+      × ((book : Book) → ArrayStands book before →
+      ArrayHistory table k (coefficients before.plan) book before calls answers' after × ArrayStands (after_calls enter book calls answers') after))
 
   -- The law of a new array, over a shelf in order whose cells are all blank: its calls and their answers are a history from the empty
   -- book.
-  abbrev pub RunsNew : List Answer → Result Unit Refusal → Type 0
-  RunsNew answers' r =
+  abbrev pub RunsNew : List Call → List Answer → Result Unit Refusal → Type 0
+  RunsNew calls answers' r =
       r ≡ Ok tt → sound before.below → AllBlank (table before.below) → ArrayHistory table k (coefficients before.plan) empty before calls answers' after
+
+  -- Both where mends and exchanges are among the calls.
+  abbrev pub RunsService : List Service → List Answer → List Answer → Result Unit Refusal → Type 0
+  RunsService calls answers answers' r =
+      Ran (run_refusal calls answers) before after answers answers' r
+      ((after.plan ≡ before.plan)
+      × ((book : Book) → ArrayStands book before →
+      ServiceHistory table k (coefficients before.plan) book before calls answers' after × ArrayStands (after_calls enter_service book calls answers') after))
+
+  abbrev pub RunsServiceNew : List Service → List Answer → Result Unit Refusal → Type 0
+  RunsServiceNew calls answers' r =
+      r ≡ Ok tt → sound before.below → AllBlank (table before.below) → ServiceHistory table k (coefficients before.plan) empty before calls answers' after

@@ -7,5 +7,5 @@ mod runs;
 mod turn;
 
 pub use crate::book::Book;
-pub use crate::call::{Answer, Call};
-pub use crate::runs::{keep, run};
+pub use crate::call::{Answer, Call, Service};
+pub use crate::runs::{keep, run, serve};

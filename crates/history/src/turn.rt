@@ -1,9 +1,9 @@
-ghost use Rattle.history.specs.Turns.{ShelfTurn, ArrayTurn};
+ghost use Rattle.history.specs.Turns.{ShelfTurn, ArrayTurn, ServiceTurn};
 
-use crate::call::{Answer, Call};
+use crate::call::{Answer, Call, Service};
 use array::Array;
 use plan::Plan;
-use shelf::Shelf;
+use shelf::{Serviceable, Shelf};
 
 // Makes one call, and says what it answered.
 macro_rules! answer {
@@ -28,4 +28,18 @@ pub(crate) fn array_turn<S: Shelf, P: Plan>(array: &mut Array<S, P>, call: &Call
     ensures { ArrayTurn S.Shelf.table S.Shelf.sound P.F.Field.arithmetic P.Plan.coefficients array.old array.new call.now result }
 {
     answer!(array, call)
+}
+
+// One call of an array that is serviced.
+pub(crate) fn service_turn<S: Serviceable, P: Plan>(
+    array: &mut Array<S, P>,
+    call: &Service,
+) -> Answer
+    ensures { ServiceTurn S.Shelf.table S.Shelf.sound P.F.Field.arithmetic P.Plan.coefficients array.old array.new call.now result }
+{
+    match call {
+        Service::Plain(call) => array_turn(array, call),
+        Service::Mend { bay, place } => Answer::Mended(array.mend(*bay, *place)),
+        Service::Exchange { bay } => Answer::Done(array.exchange(*bay)),
+    }
 }

@@ -32,6 +32,24 @@ pub enum Answer {
     Exchanged {
         bay: u32,
     },
+    // A cell of a bay below was whole, or was mended.
+    Mended {
+        bay: u32,
+        place: u32,
+        whole: bool,
+    },
+    // The number of each mend's answer or refusal, from the first place on.
+    Swept {
+        bay: u32,
+        first: u32,
+        answers: Vec<u8>,
+    },
+    // The word of a cell of a bay below.
+    Below {
+        bay: u32,
+        place: u32,
+        word: u32,
+    },
     // The words from the first place on, none where a place is lost.
     Fetched {
         bay: u32,
@@ -64,6 +82,25 @@ impl fmt::Display for Places<'_> {
                 Some(word) => write!(f, "{word}")?,
                 None => write!(f, "lost")?,
             }
+        }
+        Ok(())
+    }
+}
+
+// Numbers with blanks between them.
+#[derive(Clone, Copy)]
+struct Numbers<'a>(&'a [u8]);
+
+impl fmt::Display for Numbers<'_> {
+    fn fmt<W: fmt::Write>(&self, f: &mut fmt::Formatter<W>) -> fmt::Result {
+        if self.0.is_empty() {
+            return write!(f, "no places");
+        }
+        for (i, number) in self.0.iter().enumerate() {
+            if i > 0 {
+                write!(f, " ")?;
+            }
+            write!(f, "{number}")?;
         }
         Ok(())
     }
@@ -116,6 +153,23 @@ impl fmt::Display for Answer {
                 write!(f, "bay {bay} place {place}: patched {word}")
             }
             Answer::Exchanged { bay } => write!(f, "bay {bay}: exchanged"),
+            Answer::Mended { bay, place, whole } => {
+                let found = if *whole { "whole" } else { "mended" };
+                write!(f, "bay {bay} below, place {place}: {found}")
+            }
+            Answer::Swept {
+                bay,
+                first,
+                answers,
+            } => write!(
+                f,
+                "bay {bay} below, from place {first}: swept {}",
+                Numbers(answers)
+            ),
+            Answer::Below { bay, place, word } => write!(
+                f,
+                "bay {bay} below, place {place}: {word}"
+            ),
             Answer::Fetched { bay, first, words } => {
                 let found = words.iter().filter(|word| word.is_some()).count();
                 let places = Places(words);

@@ -3,8 +3,9 @@
 use crate::answer::{Answer, Run};
 use crate::fault::Fault;
 use crate::stage::Stage;
+use array::Mending;
 use command::ShelfCall;
-use history::Call;
+use history::{Call, Service};
 use shelf::{LostCell, Shape, Shelf, fetch, survey};
 use std::alloc::Global;
 
@@ -64,6 +65,41 @@ fn exchange<S: Stage>(shelf: &mut S, bay: u32) -> Result<Answer, Fault> {
     Ok(Answer::Exchanged { bay })
 }
 
+// Mends a cell of a bay below.
+fn mend<S: Stage>(shelf: &mut S, bay: u32, place: u32) -> Result<Answer, Fault> {
+    let call = Service::Mend {
+        bay: bay as usize,
+        place: place as usize,
+    };
+    match shelf.service(call)? {
+        history::Answer::Mended(mended) => Ok(Answer::Mended {
+            bay,
+            place,
+            whole: mended? == Mending::Whole,
+        }),
+        _ => Err(Fault::OtherAnswer),
+    }
+}
+
+// Sweeps a bay below over a run of places. One that is longer than the shelf is refused, so it needs no longer buffer.
+fn sweep<S: Stage>(
+    heap: Global,
+    shelf: &mut S,
+    bay: u32,
+    first: u32,
+    count: u32,
+) -> Result<Answer, Fault> {
+    let places = Shape::from(shelf.shape()).places;
+    let room = (count as usize).min(places + 1);
+    let mut answers = vec![in heap; 0u8; room]?;
+    shelf.sweep_bay(bay as usize, first as usize, &mut answers)?;
+    Ok(Answer::Swept {
+        bay,
+        first,
+        answers,
+    })
+}
+
 // Fetches a run of places. One that is longer than the shelf is refused, so it needs no longer buffers.
 fn fetch_run<S: Shelf>(
     heap: Global,
@@ -95,15 +131,17 @@ fn survey_run<S: Shelf>(heap: Global, shelf: &mut S, run: Run) -> Result<Answer,
     Ok(Answer::Surveyed { run, lost })
 }
 
-// Carries out a call that the shelf answers as it stands: all but a stop, for which it is taken apart.
+// Carries out a call that the shelf answers as it stands: all but a stop and a read below, for which it is taken apart.
 pub fn carry_out<S: Stage>(heap: Global, shelf: &mut S, call: ShelfCall) -> Result<Answer, Fault> {
     match call {
-        ShelfCall::Stop { call: _, bay: _ } => Err(Fault::NoSuchCall),
+        ShelfCall::Stop { .. } | ShelfCall::Below { .. } => Err(Fault::NoSuchCall),
         ShelfCall::Read { bay, place } => read(shelf, bay, place),
         ShelfCall::Write { bay, place, word } => write(shelf, bay, place, word),
         ShelfCall::Lay { place, words } => lay(shelf, place, words),
         ShelfCall::Patch { bay, place, word } => patch(shelf, bay, place, word),
         ShelfCall::Exchange { bay } => exchange(shelf, bay),
+        ShelfCall::Mend { bay, place } => mend(shelf, bay, place),
+        ShelfCall::Sweep { bay, first, count } => sweep(heap, shelf, bay, first, count),
         ShelfCall::Fetch { bay, first, count } => fetch_run(heap, shelf, bay, first, count),
         ShelfCall::Survey { first, count } => survey_run(heap, shelf, Run { first, count }),
         ShelfCall::End => Ok(Answer::Ended),

@@ -23,7 +23,7 @@ pub enum Fault {
     // Neither three nor six bays below an array, or not four below the array on a pile.
     #[error("an array stands on 3 or 6 trays, and the array of a pile on 4 bays")]
     BaysBelow,
-    // An array has no such call.
+    // The shelf has no such call.
     #[error("the shelf has no such call")]
     NoSuchCall,
     // A history answers each call by its kind, so this never comes.

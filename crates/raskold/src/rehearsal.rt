@@ -8,26 +8,47 @@ use script::Script;
 use shelf::Shape;
 use std::io::BufRead;
 
+// Carries out a call on a shelf, which comes back.
+fn take_call<S: Stage>(
+    rt: &HostRuntime,
+    mut shelf: S,
+    call: ShelfCall,
+) -> (S, Result<Answer, Fault>) {
+    match call {
+        ShelfCall::Stop { call, bay } => {
+            let (shelf, planned) = shelf.stop(call, bay as usize);
+            match planned {
+                Ok(()) => (shelf, Ok(Answer::Stops { bay, call })),
+                Err(overfull) => (shelf, Err(Fault::from(overfull))),
+            }
+        }
+        ShelfCall::Below { bay, place } => {
+            let (shelf, read) = shelf.read_below(bay as usize, place as usize);
+            match read {
+                Ok(word) => (shelf, Ok(Answer::Below { bay, place, word })),
+                Err(fault) => (shelf, Err(fault)),
+            }
+        }
+        call => {
+            let answer = carry_out(rt.alloc(), &mut shelf, call);
+            (shelf, answer)
+        }
+    }
+}
+
 // Reads one line, and carries it out on a shelf, which comes back.
 fn take_line<S: Stage + Drop>(
     rt: &HostRuntime,
-    mut shelf: S,
+    shelf: S,
     line: &[u8],
 ) -> (S, Result<Option<Answer>, Fault>) {
     match read_call(rt.alloc(), line) {
         Err(fault) => (shelf, Err(Fault::from(fault))),
         Ok(None) => (shelf, Ok(None)),
-        Ok(Some(ShelfCall::Stop { call, bay })) => {
-            let (shelf, planned) = shelf.stop(call, bay as usize);
-            match planned {
-                Ok(()) => (shelf, Ok(Some(Answer::Stops { bay, call }))),
-                Err(overfull) => (shelf, Err(Fault::from(overfull))),
-            }
+        Ok(Some(call)) => {
+            let (shelf, answer) = take_call(rt, shelf, call);
+            (shelf, answer.map(Some))
         }
-        Ok(Some(call)) => match carry_out(rt.alloc(), &mut shelf, call) {
-            Ok(answer) => (shelf, Ok(Some(answer))),
-            Err(fault) => (shelf, Err(fault)),
-        },
     }
 }
 

@@ -13,7 +13,10 @@ returns-in_default c =
     let not_lay = differs s (codes "lay") (λ len bytes. grind (arith, nat_tests)) in
     let not_patch = differs s (codes "patch") (λ len bytes. grind (arith, nat_tests)) in
     let not_exchange = differs s (codes "exchange") (λ len bytes. grind (arith, nat_tests)) in
+    let not_mend = differs s (codes "mend") (λ len bytes. grind (arith, nat_tests)) in
+    let not_sweep = differs s (codes "sweep") (λ len bytes. grind (arith, nat_tests)) in
+    let not_below = differs s (codes "below") (λ len bytes. grind (arith, nat_tests)) in
     let not_fetch = differs s (codes "fetch") (λ len bytes. grind (arith, nat_tests)) in
     let not_survey = differs s (codes "survey") (λ len bytes. grind (arith, nat_tests)) in
     let not_end = differs s (codes "end") (λ len bytes. grind (arith, nat_tests)) in
-    inr (simp (not_stop, not_read, not_write, not_lay, not_patch, not_exchange, not_fetch, not_survey, not_end))
+    inr (simp (not_stop, not_read, not_write, not_lay, not_patch, not_exchange, not_mend, not_sweep, not_below, not_fetch, not_survey, not_end))

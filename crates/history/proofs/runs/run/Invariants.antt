@@ -1,5 +1,6 @@
 use Rattle.std.proofs.Common.{◌≡◌}
 use Rattle.array.specs.Tables.{array_table, ArrayOrder}
+use Rattle.history.specs.Book.{enter}
 use Rattle.history.specs.Laws.{ArrayLaw, ArrayChange}
 use Rattle.history.specs.Runs.{Stands}
 use Rattle.history.proofs.Chains.{RunSoFar}
@@ -12,4 +13,4 @@ invariant-loop-i g l =
     let table = array_table g.S.Shelf.table k g.P.Plan.coefficients in
     let sound = ArrayOrder g.S.Shelf.table g.S.Shelf.sound k g.P.Plan.coefficients in
     (l.array.plan ≡ l.fn.array.plan)
-    × RunSoFar (λ a. g.S.Shelf.table a.below) (ArrayLaw k x) (ArrayChange k x) (λ book. Stands table sound book l.fn.array) (λ book. Stands table sound book l.array) l.fn.array l.array l.i l.calls l.answers
+    × RunSoFar enter (λ a. g.S.Shelf.table a.below) (ArrayLaw k x) (ArrayChange k x) (λ book. Stands table sound book l.fn.array) (λ book. Stands table sound book l.array) l.fn.array l.array l.i l.calls l.answers
