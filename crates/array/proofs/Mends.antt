@@ -1,5 +1,5 @@
 -- A mend of a cell below, and a fresh device: s is the table below before, t the table below after.
-use Rattle.std.proofs.Common.{◌≡◌, ℕ, ◌+◌, ◌<◌, ◌≤◌, ◌≢◌, ◌⊎◌, true, false, None, Ok, Err, List, Result, sym, refl, ap, ◌∙◌, subst, inl, inr, ⊎_elim, arith}
+use Rattle.std.proofs.Common.{◌≡◌, ℕ, ◌+◌, ◌<◌, true, false, Ok, Err, List, Result, sym, refl, ap, ◌∙◌, subst, inl, inr, ⊎_elim, arith}
 use Rattle.std.specs.Prelude.{⊤}
 use Rattle.std.proofs.lemmas.Bool.{cases_Bool, cases_eq}
 use Rattle.field.specs.Arithmetic.{Arithmetic, Lawful}
@@ -8,15 +8,15 @@ use Rattle.plan.specs.Rows.{row, dot}
 use Rattle.plan.proofs.Dots.{vector_codes, dot_below}
 use Rattle.plan.proofs.Rows.{row-codes}
 use Rattle.shelf.specs.declared.refusal.Refusal.{Refusal}
-use Rattle.shelf.specs.declared.refusal.Refusal.TheVariants.{Lost, Stopped}
-use Rattle.shelf.specs.Table.{Table, Cell, blank, holds, SameShape, Decayed, Kept}
-use Rattle.shelf.specs.Calls.{Outcome, Set, LostOnlyBlank, NoCell, ThisCell, Read, Patched, Exchanged, refuses_read, refuses_word}
-use Rattle.shelf.proofs.Settling.{shape_trans, decayed_trans, decayed_more, kept_trans, held_before, blank_stays, read_there, word_there, when_done}
+use Rattle.shelf.specs.declared.refusal.Refusal.TheVariants.{Stopped}
+use Rattle.shelf.specs.Table.{Table, blank, Decayed, Kept}
+use Rattle.shelf.specs.Calls.{Outcome, NoCell, ThisCell, Read, Patched, Exchanged, refuses_read, refuses_word}
+use Rattle.shelf.proofs.Settling.{shape_trans, decayed_trans, decayed_more, kept_trans, held_before, read_there, word_there, when_done}
 use Rattle.array.specs.declared.mending.Mending.{Mending}
 use Rattle.array.specs.declared.mending.Mending.TheVariants.{Whole}
 use Rattle.array.specs.declared.mending.Mending.TheVariants.{Patched as PatchedCell}
-use Rattle.array.specs.Decoding.{matched, Gives, Agrees, Allows, AllowsOne, AllowsMore, decoded, InOrder}
-use Rattle.array.specs.Finding.{Found, Finds}
+use Rattle.array.specs.Decoding.{matched, Gives, Agrees, AllowsOne, decoded, InOrder}
+use Rattle.array.specs.Finding.{Finds}
 use Rattle.array.specs.Service.{MendAnswer, MendsBelow, MendsCell, Mends, Freshens}
 use Rattle.array.proofs.Decay.{KeptPlace, kept_place, gives_still, agrees_still, allows_still, kept_cell}
 use Rattle.array.proofs.Decays.{cells_still, order_still, array_decayed}

@@ -1,9 +1,9 @@
 -- From what a service call does below to what it promises of the array.
-use Rattle.std.proofs.Common.{◌≡◌, ℕ, ◌<◌, ◌≤◌, Bool, true, false, cond, None, Option, Result, refl, sym, ap, ap₂, ◌∙◌, subst, inl, inr, arith}
+use Rattle.std.proofs.Common.{◌≡◌, ℕ, ◌<◌, Bool, true, false, cond, None, Option, Result, refl, sym, ap, ap₂, ◌∙◌, subst, arith}
 use Rattle.std.specs.Prelude.{⊤}
 use Rattle.std.proofs.lemmas.Bool.{lt-leb}
 use Rattle.field.specs.Arithmetic.{Arithmetic, Lawful}
-use Rattle.plan.specs.Coefficients.{Coefficients, Fitting}
+use Rattle.plan.specs.Coefficients.{Coefficients}
 use Rattle.shelf.specs.declared.refusal.Refusal.{Refusal}
 use Rattle.shelf.specs.Refusals.{bay_refusal, cell_refusal}
 use Rattle.shelf.specs.Table.{Table, SameShape}
@@ -12,7 +12,7 @@ use Rattle.shelf.proofs.Settling.{when_done}
 use Rattle.shelf.proofs.Words.{bay_fit, cell_fit}
 use Rattle.array.specs.declared.coded.Array.{Array}
 use Rattle.array.specs.declared.mending.Mending.{Mending}
-use Rattle.array.specs.Decoding.{matched, decoded, InOrder}
+use Rattle.array.specs.Decoding.{matched, InOrder}
 use Rattle.array.specs.Tables.{ArrayOrder}
 use Rattle.array.specs.Service.{refuses_mend, refuses_fresh, MendsCell, Mends, Freshens, ServedWhen, Serves}
 use Rattle.array.proofs.Mends.{mends, freshens}

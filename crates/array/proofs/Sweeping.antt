@@ -1,5 +1,5 @@
 -- A sweep, one place more at a time.
-use Rattle.std.proofs.Common.{◌≡◌, ℕ, ◌+◌, ◌<◌, ◌≤◌, List, [], ◌∷◌, ◌++◌, length, map, set, take, None, Ok, Err, Option, Result, sym, refl, ap, ap₂, ◌∙◌, subst, cond, arith}
+use Rattle.std.proofs.Common.{◌≡◌, ℕ, ◌+◌, ◌<◌, ◌≤◌, List, [], ◌∷◌, ◌++◌, length, map, set, take, None, Ok, Option, Result, sym, refl, ap, ap₂, ◌∙◌, subst, cond, arith}
 use Rattle.std.proofs.lemmas.List.{length_push, map-append, take_more_set, take_all}
 use Rattle.std.proofs.lemmas.Bool.{lt-leb, le-ltb}
 use Rattle.field.specs.Arithmetic.{Arithmetic}
@@ -11,22 +11,23 @@ use Rattle.shelf.proofs.Words.{bay_fit, run_fit}
 use Rattle.array.specs.declared.coded.Array.{Array}
 use Rattle.array.specs.declared.mending.Mending.{Mending}
 use Rattle.array.specs.Decoding.{matched}
-use Rattle.array.specs.Service.{mend_number, refuses_mend, refuses_sweep, Mends, Serves, AllMends, SweptWhen, Sweeps}
+use Rattle.array.specs.Service.{mend_number, refuses_mend, refuses_sweep, Mends, MendReads, Serves, AllMends, SweptWhen, Sweeps}
 
 module _ {S P : Type 0} (table : S → Table) (sound : S → Type 0) (k : Arithmetic) (coefficients : P → Coefficients) (b : ℕ) where
+  -- one mend of the sweep
+  abbrev Mend : Array S P → Array S P → ℕ → Result Mending Refusal → Type 0
+  Mend now next p r = Serves table sound k coefficients now next (refuses_mend b p) (Mends b p) r × MendReads table sound k coefficients now next b p r
+
   -- one mend after the others
   mends_more : (first i : ℕ) (before now next : Array S P) (rs : List (Result Mending Refusal)) (r : Result Mending Refusal) → length rs ≡ i → AllMends table sound k coefficients b first before rs now
-      → Serves table sound k coefficients now next (refuses_mend b (first + i)) (Mends b (first + i)) r → AllMends table sound k coefficients b first before (rs ++ r ∷ []) next
+      → Mend now next (first + i) r → AllMends table sound k coefficients b first before (rs ++ r ∷ []) next
   mends_more first i before now next [] r is e mend =
-      let at : first + i ≡ first = omega arith in (
-        next,
-        subst (λ (a : Array S P). Serves table sound k coefficients a next (refuses_mend b first) (Mends b first) r) e
-            (subst (λ p. Serves table sound k coefficients now next (refuses_mend b p) (Mends b p) r) at mend),
-        refl,
-      )
-  mends_more first i before now next (q ∷ rs) r is (then, one, others) mend =
+      let at : first + i ≡ first = omega arith in
+      let one = subst (λ (a : Array S P). Mend a next first r) e (subst (λ p. Mend now next p r) at mend) in
+      (next, one.0, one.1, refl)
+  mends_more first i before now next (q ∷ rs) r is (then, one, reads, others) mend =
       let at : first + i ≡ first + 1 + length rs = omega arith in
-      (then, one, mends_more (first + 1) (length rs) then now next rs r refl others (subst (λ p. Serves table sound k coefficients now next (refuses_mend b p) (Mends b p) r) at mend))
+      (then, one, reads, mends_more (first + 1) (length rs) then now next rs r refl others (subst (λ p. Mend now next p r) at mend))
 
   -- after i places: the mends so far, and their numbers in the first bytes
   abbrev pub Sweeping : ℕ → Array S P → Array S P → List ℕ → ℕ → Type 0
@@ -37,7 +38,7 @@ module _ {S P : Type 0} (table : S → Table) (sound : S → Type 0) (k : Arithm
   first_place first before bytes = ([], refl, refl, refl)
 
   pub next_place : (first : ℕ) (before now next : Array S P) (bytes : List ℕ) (i : ℕ) (r : Result Mending Refusal) (byte : ℕ) → i < length bytes → byte ≡ mend_number r → Sweeping first before now bytes i
-      → Serves table sound k coefficients now next (refuses_mend b (first + i)) (Mends b (first + i)) r → Sweeping first before next (set bytes i byte) (i + 1)
+      → Mend now next (first + i) r → Sweeping first before next (set bytes i byte) (i + 1)
   next_place first before now next bytes i r byte few is (rs, long, all, put) mend = (
     rs ++ r ∷ [],
     length_push rs r ∙ ap (λ m. m + 1) long,

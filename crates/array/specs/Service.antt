@@ -7,7 +7,7 @@ use Rattle.shelf.specs.declared.refusal.Refusal.{Refusal}
 use Rattle.shelf.specs.declared.refusal.Refusal.TheVariants.{NoSuchBay, NoSuchPlace, Lost, Stopped}
 use Rattle.shelf.specs.Refusals.{number, first_of, bay_refusal, cell_refusal}
 use Rattle.shelf.specs.Table.{Table, blank, holds, SameShape, Decayed, Kept}
-use Rattle.shelf.specs.Calls.{Set, NoCell, ThisCell, Exchanged}
+use Rattle.shelf.specs.Calls.{Outcome, Set, NoCell, ThisCell, Read, Exchanged, refuses_read}
 use Rattle.array.specs.declared.mending.Mending.{Mending}
 use Rattle.array.specs.declared.mending.Mending.TheVariants.{Whole, Patched}
 use Rattle.array.specs.Decoding.{matched, decoded, Agrees, AllowsOne, AllowsMore}
@@ -53,6 +53,19 @@ MendsCell table sound k x b p before after Known r =
     × (sound before → matched k x (table before) ≡ true → b < (table before).bays → p < (table before).places → (v : List ℕ) → Agrees k x (table before) p v → Known →
     sound after × MendsBelow k x b p (table before) (table after) r)
 
+-- A mend begins with a read of its cell. Where that gives a word it answers whole and has done no more, and where it gives none it
+-- answers otherwise.
+abbrev pub NotWhole : Result Mending Refusal → Type 0
+NotWhole r = r ≢ Ok Whole
+
+abbrev pub WholeWhen : {Self : Type 0} → Result ℕ Refusal → Self → Self → Result Mending Refusal → Type 0
+WholeWhen (Ok w) read after r = (r ≡ Ok Whole) × (after ≡ read)
+WholeWhen (Err e) read after r = NotWhole r
+
+abbrev pub ReadsFirst : {Self : Type 0} → (Self → Table) → (Self → Type 0) → ℕ → ℕ → Self → Self → Result Mending Refusal → Type 0
+ReadsFirst {Self} table sound b p before after r =
+    (read : Self) × (q : Result ℕ Refusal) × Outcome table sound before read (refuses_read b p) (Read b p) q × WholeWhen q read after r
+
 -- And the array itself only decays: a mend fills no cell of it that was blank, and changes no word.
 pub record Mends (b p : ℕ) (r : Result Mending Refusal) (k : Arithmetic) (x : Coefficients) (s t : Table) : Type 0 where
   pub below : MendsBelow k x b p s t r
@@ -75,6 +88,11 @@ Serves table sound k coefficients before after refusal promise r =
     × ServedWhen (refusal k (coefficients before.plan) (table before.below)) before after r
     (ArrayOrder table sound k coefficients before → ArrayOrder table sound k coefficients after × promise r k (coefficients before.plan) (table before.below) (table after.below))
 
+-- so a mend that is not refused reads first
+abbrev pub MendReads : {S P : Type 0} → (S → Table) → (S → Type 0) → Arithmetic → (P → Coefficients) → Array S P → Array S P → ℕ → ℕ → Result Mending Refusal → Type 0
+MendReads table sound k coefficients before after b p r =
+    refuses_mend b p k (coefficients before.plan) (table before.below) ≡ None → ReadsFirst table sound b p before.below after.below r
+
 -- why a sweep is refused: no such bay, then a run of places that passes the last
 abbrev pub refuses_sweep : ℕ → ℕ → ℕ → Arithmetic → Coefficients → Table → Option Refusal
 refuses_sweep b first count k x s =
@@ -85,7 +103,8 @@ refuses_sweep b first count k x s =
 abbrev pub AllMends : {S P : Type 0} → (S → Table) → (S → Type 0) → Arithmetic → (P → Coefficients) → ℕ → ℕ → Array S P → List (Result Mending Refusal) → Array S P → Type 0
 AllMends table sound k coefficients b first before [] after = after ≡ before
 AllMends {S} {P} table sound k coefficients b first before (r ∷ rs) after =
-    (next : Array S P) × Serves table sound k coefficients before next (refuses_mend b first) (Mends b first) r × AllMends table sound k coefficients b (first + 1) next rs after
+    (next : Array S P) × Serves table sound k coefficients before next (refuses_mend b first) (Mends b first) r × MendReads table sound k coefficients before next b first r
+    × AllMends table sound k coefficients b (first + 1) next rs after
 
 -- Sweep: a refused one changes nothing. Any other mends each place of the run, and puts the number of each answer in its byte.
 abbrev pub SweptWhen : {S P : Type 0} → (S → Table) → (S → Type 0) → Arithmetic → (P → Coefficients) → Array S P → Array S P → ℕ → ℕ → List ℕ → List ℕ → Option Refusal → Result Unit Refusal → Type 0

@@ -1,7 +1,7 @@
 ghost use Rattle.std.specs.Prelude.{◌≡◌, ⊤, cond};
 ghost use Rattle.shelf.specs.Table.{blank};
 ghost use Rattle.array.specs.Decoding.{matched};
-ghost use Rattle.array.specs.Service.{refuses_mend, refuses_fresh, mend_number, MendsCell, Mends, Freshens, Serves, Sweeps};
+ghost use Rattle.array.specs.Service.{refuses_mend, refuses_fresh, mend_number, NotWhole, ReadsFirst, MendReads, MendsCell, Mends, Freshens, Serves, Sweeps};
 
 use crate::coded::Array;
 use crate::finding::told_word;
@@ -16,7 +16,8 @@ fn patch_told<S: Serviceable, P: Plan>(
     bay: usize,
     place: usize,
 ) -> Result<Mending, Refusal>
-    ensures { MendsCell S.Shelf.table S.Shelf.sound P.F.Field.arithmetic (P.Plan.coefficients plan.now) bay place below.old below.new ((S.Shelf.table below.old).cell bay place ≡ blank) result }
+    ensures promised { MendsCell S.Shelf.table S.Shelf.sound P.F.Field.arithmetic (P.Plan.coefficients plan.now) bay place below.old below.new ((S.Shelf.table below.old).cell bay place ≡ blank) result }
+    ensures otherwise { NotWhole result }
 {
     let word = told_word(below, plan, bay, place)?;
     match below.patch(bay, place, word) {
@@ -33,7 +34,8 @@ fn mend_cell<S: Serviceable, P: Plan>(
     bay: usize,
     place: usize,
 ) -> Result<Mending, Refusal>
-    ensures { MendsCell S.Shelf.table S.Shelf.sound P.F.Field.arithmetic (P.Plan.coefficients plan.now) bay place below.old below.new ⊤ result }
+    ensures promised { MendsCell S.Shelf.table S.Shelf.sound P.F.Field.arithmetic (P.Plan.coefficients plan.now) bay place below.old below.new ⊤ result }
+    ensures reads { ReadsFirst S.Shelf.table S.Shelf.sound bay place below.old below.new result }
 {
     match below.read(bay, place) {
         Ok(_) => Ok(Mending::Whole),
@@ -76,7 +78,8 @@ impl<S: Serviceable, P: Plan> Array<S, P> {
 
     // Mends one cell below: where it gives no word, the word that the others tell is put in it.
     pub fn mend(&mut self, bay: usize, place: usize) -> Result<Mending, Refusal>
-        ensures { Serves S.Shelf.table S.Shelf.sound P.F.Field.arithmetic P.Plan.coefficients self.old self.new (refuses_mend bay place) (Mends bay place) result }
+        ensures promised { Serves S.Shelf.table S.Shelf.sound P.F.Field.arithmetic P.Plan.coefficients self.old self.new (refuses_mend bay place) (Mends bay place) result }
+        ensures reads { MendReads S.Shelf.table S.Shelf.sound P.F.Field.arithmetic P.Plan.coefficients self.old self.new bay place result }
     {
         self.serviced().check_cell(bay, place)?;
         mend_cell(&mut self.below, &self.plan, bay, place)
