@@ -96,12 +96,17 @@ module _ (k : Arithmetic) (l : Lawful k) (x : Coefficients) (s t : Table) (b : �
 module _ {Self : Type 0} (table : Self → Table) (sound : Self → Type 0) (k : Arithmetic) (l : Lawful k) (x : Coefficients) (fit : Fitting k x) (b p : ℕ) (s : Self) where
   -- A cell that gave its word is whole.
   pub whole_cell : (t : Self) (w : ℕ) → Outcome table sound s t (refuses_read b p) (Read b p) (Ok w) → MendsCell table sound k x b p s t ⊤ (Ok Whole)
-  whole_cell t w read = (read.0, λ ordered match bay place v hv _.
-      let (still, done) = when_done (table s) (table t) (sound s) (sound t) (refuses_read b p (table s)) (Read b p) (Ok w) (read_there b p (table s) bay place) read ordered in
-      (still, record {
-        rest = decayed_more NoCell (ThisCell b p) (table s) (table t) (λ b p z. absurd z) done.rest;
-        answer = ((w, done.answer), done.rest.cells b p bay place (λ z. z));
-      }))
+  whole_cell t w read = (
+    read.0,
+    λ ordered match bay place v hv _.
+        let (still, done) = when_done (table s) (table t) (sound s) (sound t) (refuses_read b p (table s)) (Read b p) (Ok w) (read_there b p (table s) bay place) read ordered in (
+          still,
+          record {
+            rest = decayed_more NoCell (ThisCell b p) (table s) (table t) (λ b p z. absurd z) done.rest;
+            answer = ((w, done.answer), done.rest.cells b p bay place (λ z. z));
+          },
+        ),
+  )
 
   module _ (t u : Self) (w : ℕ) (found : Finds table sound k x b p s t ((table s).cell b p ≡ blank) (Ok w)) (r : Result Unit Refusal) (patch : Outcome table sound t u (refuses_word b p w) (Patched b p w) r) where
     -- What is known of a patch with the told word: it was the one word allowed, and the patch keeps its promise.
@@ -123,39 +128,55 @@ module _ {Self : Type 0} (table : Self → Table) (sound : Self → Type 0) (k :
 
   -- A told word that was put in the cell.
   pub patched_cell : (t u : Self) (w : ℕ) → Finds table sound k x b p s t ((table s).cell b p ≡ blank) (Ok w) → Outcome table sound t u (refuses_word b p w) (Patched b p w) (Ok tt) → MendsCell table sound k x b p s u ((table s).cell b p ≡ blank) (Ok PatchedCell)
-  patched_cell t u w found patch = (shape_trans (table s) (table t) (table u) found.0 patch.0, λ ordered match bay place v hv empty.
-      let (last, one, rest, done) = patched_so t u w found (Ok tt) patch ordered match bay place v hv empty in
-      (last, record { rest = rest; answer = (w, one, done.set, done.filled) }))
+  patched_cell t u w found patch = (
+    shape_trans (table s) (table t) (table u) found.0 patch.0,
+    λ ordered match bay place v hv empty.
+        let (last, one, rest, done) = patched_so t u w found (Ok tt) patch ordered match bay place v hv empty in
+        (last, record { rest = rest; answer = (w, one, done.set, done.filled) }),
+  )
 
   -- One that was not: the cell is blank, so the bay is stopped.
   pub stopped_cell : (t u : Self) (w : ℕ) (e : Refusal) → Finds table sound k x b p s t ((table s).cell b p ≡ blank) (Ok w) → Outcome table sound t u (refuses_word b p w) (Patched b p w) (Err e) → MendsCell table sound k x b p s u ((table s).cell b p ≡ blank) (Err Stopped)
-  stopped_cell t u w e found patch = (shape_trans (table s) (table t) (table u) found.0 patch.0, λ ordered match bay place v hv empty.
-      let (last, one, rest, done) = patched_so t u w found (Err e) patch ordered match bay place v hv empty in
-      let gone : (table u).cell b p ≡ blank = ⊎_elim (λ kept. absurd (let z : ◌≡◌ {A = ℕ} 0 1 = cc in let y : ⊥ = omega arith in y)) (λ (lost, empty). empty) done.answer in
-      let halted : (table u).running b ≡ false = ⊎_elim (λ on. absurd (done.filled on gone)) (λ off. off) (cases_Bool ((table u).running b)) in
-      (last, record { rest = rest; answer = inr (refl, halted, gone) }))
+  stopped_cell t u w e found patch = (
+    shape_trans (table s) (table t) (table u) found.0 patch.0,
+    λ ordered match bay place v hv empty.
+        let (last, one, rest, done) = patched_so t u w found (Err e) patch ordered match bay place v hv empty in
+        let gone : (table u).cell b p ≡ blank = ⊎_elim (λ kept. absurd (let z : ◌≡◌ {A = ℕ} 0 1 = cc in let y : ⊥ = omega arith in y)) (λ (lost, empty). empty) done.answer in
+        let halted : (table u).running b ≡ false = ⊎_elim (λ on. absurd (done.filled on gone)) (λ off. off) (cases_Bool ((table u).running b)) in
+        (last, record { rest = rest; answer = inr (refl, halted, gone) }),
+  )
 
   -- A word that is not told.
   pub lost_cell : (t : Self) (e : Refusal) → Finds table sound k x b p s t ((table s).cell b p ≡ blank) (Err e) → MendsCell table sound k x b p s t ((table s).cell b p ≡ blank) (Err e)
-  lost_cell t e found = (found.0, λ ordered match bay place v hv empty.
-      let (still, is) = found.1 ordered match bay place empty in
-      let kept = kept_place k x NoCell (table s) (table t) p is.rest (matched_bays k x (table s) match) place (λ b z. z) in
-      (still, record {
-        rest = decayed_more NoCell (ThisCell b p) (table s) (table t) (λ b p z. absurd z) is.rest;
-        answer = inl (is.answer.0, is.answer.1 (dot k (row x b) v) (v, agrees_still k x (table s) (table t) p kept v hv, refl), is.rest.cells b p bay place (λ z. z));
-      }))
+  lost_cell t e found = (
+    found.0,
+    λ ordered match bay place v hv empty.
+        let (still, is) = found.1 ordered match bay place empty in
+        let kept = kept_place k x NoCell (table s) (table t) p is.rest (matched_bays k x (table s) match) place (λ b z. z) in (
+          still,
+          record {
+            rest = decayed_more NoCell (ThisCell b p) (table s) (table t) (λ b p z. absurd z) is.rest;
+            answer = inl (is.answer.0, is.answer.1 (dot k (row x b) v) (v, agrees_still k x (table s) (table t) p kept v hv, refl), is.rest.cells b p bay place (λ z. z));
+          },
+        ),
+  )
 
   -- A cell that gave no word is blank, and what is done with it then is a mend from the start.
   pub later_mend : (t u : Self) (e : Refusal) (r : Result Mending Refusal) → Outcome table sound s t (refuses_read b p) (Read b p) (Err e) → MendsCell table sound k x b p t u ((table t).cell b p ≡ blank) r → MendsCell table sound k x b p s u ⊤ r
-  later_mend t u e r read mend = (shape_trans (table s) (table t) (table u) read.0 mend.0, λ ordered match bay place v hv _.
-      let (still, done) = when_done (table s) (table t) (sound s) (sound t) (refuses_read b p (table s)) (Read b p) (Err e) (read_there b p (table s) bay place) read ordered in
-      let bays = matched_bays k x (table s) match in
-      let kept = kept_place k x NoCell (table s) (table t) p done.rest bays place (λ b z. z) in
-      let (last, is) = mend.1 still (matched_same k x (table s) (table t) read.0 ∙ match) (let e = read.0.bays in omega arith) (let e = read.0.places in omega arith) v (agrees_still k x (table s) (table t) p kept v hv) done.answer.1 in
-      (last, record {
-        rest = decayed_trans (ThisCell b p) (table s) (table t) (table u) (decayed_more NoCell (ThisCell b p) (table s) (table t) (λ b p z. absurd z) done.rest) is.rest;
-        answer = earlier kept v hv (kept b (omega arith)) r is.answer;
-      }))
+  later_mend t u e r read mend = (
+    shape_trans (table s) (table t) (table u) read.0 mend.0,
+    λ ordered match bay place v hv _.
+        let (still, done) = when_done (table s) (table t) (sound s) (sound t) (refuses_read b p (table s)) (Read b p) (Err e) (read_there b p (table s) bay place) read ordered in
+        let bays = matched_bays k x (table s) match in
+        let kept = kept_place k x NoCell (table s) (table t) p done.rest bays place (λ b z. z) in
+        let (last, is) = mend.1 still (matched_same k x (table s) (table t) read.0 ∙ match) (let e = read.0.bays in omega arith) (let e = read.0.places in omega arith) v (agrees_still k x (table s) (table t) p kept v hv) done.answer.1 in (
+          last,
+          record {
+            rest = decayed_trans (ThisCell b p) (table s) (table t) (table u) (decayed_more NoCell (ThisCell b p) (table s) (table t) (λ b p z. absurd z) done.rest) is.rest;
+            answer = earlier kept v hv (kept b (omega arith)) r is.answer;
+          },
+        ),
+  )
     where
       earlier : KeptPlace k x (table s) (table t) p → (v : List ℕ) → Agrees k x (table s) p v → Kept ((table s).cell b p) ((table t).cell b p) → (r : Result Mending Refusal) → MendAnswer k x b p (table t) (table u) r → MendAnswer k x b p (table s) (table u) r
       earlier kept v hv here (Ok Whole) ((w, had), after) =

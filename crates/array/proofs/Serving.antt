@@ -41,9 +41,12 @@ module _ {S P : Type 0} (table : S → Table) (sound : S → Type 0) (k : Arithm
 
   served : {A : Type 0} (refusal : Arithmetic → Coefficients → Table → Option Refusal) (promise : Result A Refusal → Arithmetic → Coefficients → Table → Table → Type 0) (r : Result A Refusal)
       → refusal k x s ≡ None → SameShape s t → (Ordered → sound below) → (Ordered → InOrder k x t × promise r k x s t) → Serves table sound k coefficients before served_after refusal promise r
-  served refusal promise r none same still keeps =
-      (refl, same, subst (λ o. ServedWhen o before served_after r (Ordered → ArrayOrder table sound k coefficients served_after × promise r k x s t)) (sym none)
-      (λ ordered. let (order, kept) = keeps ordered in ((still ordered, order), kept)))
+  served refusal promise r none same still keeps = (
+    refl,
+    same,
+    subst (λ o. ServedWhen o before served_after r (Ordered → ArrayOrder table sound k coefficients served_after × promise r k x s t)) (sym none)
+        (λ ordered. let (order, kept) = keeps ordered in ((still ordered, order), kept)),
+  )
 
   -- What the tests on the shape let pass is not refused.
   pub tested_mend : (n m b p : ℕ) → n ≡ cond (matched k x s) s.bays 0 → m ≡ cond (matched k x s) s.places 0 → cell_refusal n m b p ≡ None → refuses_mend b p k x s ≡ None

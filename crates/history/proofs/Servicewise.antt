@@ -29,9 +29,13 @@ use Rattle.history.proofs.Arraywise.{unchanged, array_step, turn_plan}
 module _ (k : Arithmetic) (x : Coefficients) (s t : Table) where
   -- A cell that held its word allows no other value, and a patched one had one that was allowed alone.
   right_mend : (b p : ℕ) (v : List ℕ) → Agrees k x s p v → b < x.n + x.m → (r : Result Mending Refusal) → MendAnswer k x b p s t r → RightMend k x s b p r t
-  right_mend b p v h few (Ok Whole) ((w, had), kept) =
-      (w, ((v, h, sym (let gave : w ≡ dot k (row x b) v = subst (Gives k x b v) had (h.gives b few) in gave)),
-      λ u (z, hz, is). sym is ∙ sym (let gave : w ≡ dot k (row x b) z = subst (Gives k x b z) had (hz.gives b few) in gave)))
+  right_mend b p v h few (Ok Whole) ((w, had), kept) = (
+    w,
+    (
+      (v, h, sym (let gave : w ≡ dot k (row x b) v = subst (Gives k x b v) had (h.gives b few) in gave)),
+      λ u (z, hz, is). sym is ∙ sym (let gave : w ≡ dot k (row x b) z = subst (Gives k x b z) had (hz.gives b few) in gave),
+    ),
+  )
   right_mend b p v h few (Ok Patched) (w, one, set, filled) = (w, one)
   right_mend b p v h few (Err e) answer = ⊎_elim (λ (lost, more, kept). inl (lost, more)) (λ stopped. inr stopped) answer
 
@@ -82,13 +86,15 @@ module _ {S P : Type 0} (table : S → Table) (sound : S → Type 0) (k : Arithm
   service_step (Mend b p) a turn book (ordered, backed) =
       let (r, is, (plan, same, when)) = of_mend (Serves table sound k coefficients before after (refuses_mend b p) (Mends b p)) a turn in
       let (change, law, stands) = came r (Mends b p r k x s t) (refuses_mend b p k x s ≡ None → RightMend k x s b p r t) ordered book backed plan
-      (λ order mended. (λ none.
-          let (d, there) = cell_fit _ _ b p none in
-          let (match, bay) = below_cond (matched k x s) b s.bays d in
-          let (_, place) = below_cond (matched k x s) p s.places there in
-          let (v, hv) = order p (let e = fit_places k x s match in omega arith) in
-          right_mend k x s t b p v hv (let e = matched_bays k x s match in omega arith) r mended.below.answer,
-      backed_decayed book (decoded k x s) (decoded k x t) backed mended.own))
+      (λ order mended. (
+        λ none.
+            let (d, there) = cell_fit _ _ b p none in
+            let (match, bay) = below_cond (matched k x s) b s.bays d in
+            let (_, place) = below_cond (matched k x s) p s.places there in
+            let (v, hv) = order p (let e = fit_places k x s match in omega arith) in
+            right_mend k x s t b p v hv (let e = matched_bays k x s match in omega arith) r mended.below.answer,
+        backed_decayed book (decoded k x s) (decoded k x t) backed mended.own,
+      ))
       (refuses_mend b p k x s) when in
       subst (λ a. ServiceChange k x (Mend b p) a s t × ServiceLaw k x book s (Mend b p) a t × ArrayStands (enter_service (Mend b p) a book) after) (sym is)
       (change, answered_when (refuses_mend b p k x s) r (RightMend k x s b p r t) law, stands)
