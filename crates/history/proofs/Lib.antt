@@ -5,3 +5,4 @@ pub mod Chains
 pub mod Arraywise
 pub mod Booking
 pub mod Servicewise
+pub mod Arrayruns

@@ -1,16 +1,15 @@
 -- One call of an array that is serviced, with a book that backs its cells.
-use Rattle.std.proofs.Common.{◌≡◌, ℕ, ◌+◌, ◌<◌, ◌≤◌, ◌⊎◌, List, Some, None, Ok, Err, Option, Result, sym, refl, ap, ◌∙◌, subst, inl, inr, ⊎_elim, arith}
+use Rattle.std.proofs.Common.{◌≡◌, ℕ, ◌+◌, ◌<◌, List, Some, None, Ok, Err, Option, Result, sym, refl, ap, ◌∙◌, subst, inl, inr, ⊎_elim, arith}
 use Rattle.field.specs.Arithmetic.{Arithmetic, Lawful}
 use Rattle.plan.specs.Coefficients.{Coefficients}
 use Rattle.plan.specs.Rows.{row, dot}
 use Rattle.shelf.specs.declared.refusal.Refusal.{Refusal}
-use Rattle.shelf.specs.Table.{Table, SameShape, Unchanged, Kept}
-use Rattle.shelf.proofs.Settling.{same_shape, undecayed, decayed_more}
+use Rattle.shelf.specs.Table.{Table, Unchanged}
 use Rattle.shelf.proofs.Words.{cell_fit}
 use Rattle.array.specs.declared.coded.Array.{Array}
 use Rattle.array.specs.declared.mending.Mending.{Mending}
 use Rattle.array.specs.declared.mending.Mending.TheVariants.{Whole, Patched}
-use Rattle.array.specs.Decoding.{matched, Gives, Agrees, Allows, AllowsOne, decoded, InOrder}
+use Rattle.array.specs.Decoding.{matched, Gives, Agrees, decoded, InOrder}
 use Rattle.array.specs.Tables.{array_table, ArrayOrder}
 use Rattle.array.specs.Service.{refuses_mend, refuses_fresh, MendAnswer, Mends, Freshens, ServedWhen, Serves}
 use Rattle.array.proofs.Shapes.{array_shape, fit_places, matched_bays}
@@ -22,7 +21,7 @@ use Rattle.history.specs.Book.{Book, enter_service}
 use Rattle.history.specs.Laws.{Answered, Changed, RightMend, ServiceLaw, ServiceChange}
 use Rattle.history.specs.Turns.{ServiceTurn}
 use Rattle.history.specs.Runs.{Backed, Stands}
-use Rattle.history.proofs.Sorting.{of_mend, of_done, mend_also, done_also}
+use Rattle.history.proofs.Sorting.{of_mend, of_done}
 use Rattle.history.proofs.Backing.{backed_decayed, backed_kept_all}
 use Rattle.history.proofs.Arraywise.{unchanged, array_step, turn_plan}
 

@@ -43,28 +43,29 @@ module _ {S P : Type 0} (table : S → Table) (sound : S → Type 0) (k : Arithm
   abbrev ArrayStands : Book → Array S P → Type 0
   ArrayStands book a = Stands (array_table table k coefficients) (ArrayOrder table sound k coefficients) book a
 
-  -- The same of an array, whose plan stays.
+  -- Of an array, where `feed` enters its calls in the book and Made says of calls and answers that they are a history from a book.
+  module _ {C : Type 0} (feed : C → Answer → Book → Book) (Made : Book → List C → List Answer → Type 0) where
+    -- From any array in order and book that backs it, as of a shelf; and the plan stays.
+    abbrev RunsOn : List C → List Answer → List Answer → Result Unit Refusal → Type 0
+    RunsOn calls answers answers' r =
+        Ran (run_refusal calls answers) before after answers answers' r
+        ((after.plan ≡ before.plan)
+        × ((book : Book) → ArrayStands book before → Made book calls answers' × ArrayStands (after_calls feed book calls answers') after))
+
+    -- From a new array, over a shelf in order whose cells are all blank: its calls and their answers are a history from the empty book.
+    abbrev RunsFrom : List C → List Answer → Result Unit Refusal → Type 0
+    RunsFrom calls answers' r = r ≡ Ok tt → sound before.below → AllBlank (table before.below) → Made empty calls answers'
+
+  -- over any shelf
   abbrev pub RunsArray : List Call → List Answer → List Answer → Result Unit Refusal → Type 0
-  RunsArray calls answers answers' r =
-      Ran (run_refusal calls answers) before after answers answers' r
-      ((after.plan ≡ before.plan)
-      × ((book : Book) → ArrayStands book before →
-      ArrayHistory table k (coefficients before.plan) book before calls answers' after × ArrayStands (after_calls enter book calls answers') after))
+  RunsArray calls answers answers' r = RunsOn enter (λ book cs told. ArrayHistory table k (coefficients before.plan) book before cs told after) calls answers answers' r
 
-  -- The law of a new array, over a shelf in order whose cells are all blank: its calls and their answers are a history from the empty
-  -- book.
   abbrev pub RunsNew : List Call → List Answer → Result Unit Refusal → Type 0
-  RunsNew calls answers' r =
-      r ≡ Ok tt → sound before.below → AllBlank (table before.below) → ArrayHistory table k (coefficients before.plan) empty before calls answers' after
+  RunsNew calls answers' r = RunsFrom enter (λ book cs told. ArrayHistory table k (coefficients before.plan) book before cs told after) calls answers' r
 
-  -- Both where mends and exchanges are among the calls.
+  -- over a serviceable one, with mends and exchanges among the calls
   abbrev pub RunsService : List Service → List Answer → List Answer → Result Unit Refusal → Type 0
-  RunsService calls answers answers' r =
-      Ran (run_refusal calls answers) before after answers answers' r
-      ((after.plan ≡ before.plan)
-      × ((book : Book) → ArrayStands book before →
-      ServiceHistory table k (coefficients before.plan) book before calls answers' after × ArrayStands (after_calls enter_service book calls answers') after))
+  RunsService calls answers answers' r = RunsOn enter_service (λ book cs told. ServiceHistory table k (coefficients before.plan) book before cs told after) calls answers answers' r
 
   abbrev pub RunsServiceNew : List Service → List Answer → Result Unit Refusal → Type 0
-  RunsServiceNew calls answers' r =
-      r ≡ Ok tt → sound before.below → AllBlank (table before.below) → ServiceHistory table k (coefficients before.plan) empty before calls answers' after
+  RunsServiceNew calls answers' r = RunsFrom enter_service (λ book cs told. ServiceHistory table k (coefficients before.plan) book before cs told after) calls answers' r

@@ -11,6 +11,7 @@ pub enum Fault {
     // A run is refused.
     #[error("refused by {}", .0.number())]
     Run(#[from] Refusal),
+    // There was no memory for a list, or for what the arrays stand on.
     #[error("out of memory")]
     Memory(#[from(alloc)] AllocError),
 }
