@@ -4,8 +4,6 @@ use Rattle.std.proofs.Common.{⊎_elim, arith, mod-lt}
 use Rattle.std.proofs.lemmas.Bool.{cond-false, cond_both, and_left, and_right, le-ltb, ne_eqb}
 use Rattle.field.specs.Arithmetic.{Arithmetic, Lawful}
 use Rattle.field.specs.Laws.{zero_below, one_below, code}
-use Rattle.field.specs.Fields.{byte}
-use Rattle.field.specs.LawfulFields as lawful_fields
 use Rattle.plan.specs.Bounds.{most_data, most_checks}
 use Rattle.plan.specs.Coefficients.{Fitting}
 use Rattle.plan.specs.Groups.{groups}
@@ -25,14 +23,14 @@ groups_fitting k l n m n_low n_high m_low m_high = record {
 }
 
 -- remainders by the order, or zero
-pub written_fitting : (n m : ℕ) (table : List ℕ) → 1 ≤ n → n ≤ most_data → 1 ≤ m → m ≤ most_checks → Fitting byte (written n m table)
-written_fitting n m table n_low n_high m_low m_high = record {
+pub written_fitting : (k : Arithmetic) → Lawful k → (n m : ℕ) (table : List ℕ) → 1 ≤ n → n ≤ most_data → 1 ≤ m → m ≤ most_checks → Fitting k (written k n m table)
+written_fitting k l n m table n_low n_high m_low m_high = record {
   data_low = n_low;
   data_high = n_high;
   checks_low = m_low;
   checks_high = m_high;
   below = λ i j.
-      cond_both (nat_lt i m && nat_lt j n) (slice_index table (most_data * i + j) % byte.order) 0 (λ y. y < byte.order)
-      (λ _. code byte (lawful_fields.byte).laws (slice_index table (most_data * i + j))) (λ _. zero_below byte (lawful_fields.byte).laws);
+      cond_both (nat_lt i m && nat_lt j n) (slice_index table (most_data * i + j) % k.order) 0 (λ y. y < k.order)
+      (λ _. code k l (slice_index table (most_data * i + j))) (λ _. zero_below k l);
   outside = λ i j o. cond-false (nat_lt i m && nat_lt j n) _ _ (without i j m n o);
 }

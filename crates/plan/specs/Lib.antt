@@ -7,3 +7,4 @@ pub mod Written
 pub mod Refusals
 pub mod Powering
 pub mod Fits
+pub mod AnyPlans

@@ -1,6 +1,7 @@
 // Plans: how many bays hold data and how many hold checks, and the coefficient of each data bay in each check.
 #![tactic(auto)]
 
+mod any_plan;
 mod bays;
 mod checks;
 mod entries;
@@ -10,6 +11,7 @@ mod powers_plan;
 mod refusal;
 mod written_plan;
 
+pub use crate::any_plan::AnyPlan;
 pub use crate::bays::Bays;
 pub use crate::checks::{check_word, moved_word};
 pub use crate::entries::{entry, row};

@@ -98,3 +98,11 @@ pub record Exchanged (b : ℕ) (s t : Table) (r : Result Unit Refusal) : Type 0 
   pub fresh : (p : ℕ) → p < s.places → t.cell b p ≡ blank
   pub cells : (b' p : ℕ) → b' < s.bays → p < s.places → b' ≢ b → (t.cell b' p ≡ s.cell b' p) ⊎ (t.cell b' p ≡ blank)
   pub stops : (b' : ℕ) → b' < s.bays → b' ≢ b → t.running b' ≡ true → s.running b' ≡ true
+
+-- Clear: every cell of the place is blank. The other cells only decay.
+pub record Cleared (p : ℕ) (s t : Table) : Type 0 where
+  pub rest : Decayed (ThisPlace p) s t
+  pub gone : (b : ℕ) → b < s.bays → p < s.places → t.cell b p ≡ blank
+
+abbrev pub Clears : {Self : Type 0} → (Self → Table) → (Self → Type 0) → ℕ → Self → Self → Type 0
+Clears table sound p before after = SameShape (table before) (table after) × (sound before → sound after × Cleared p (table before) (table after))

@@ -1,7 +1,7 @@
-// The two interfaces that every shelf keeps, and that everything above a shelf is proved against.
+// The interfaces that shelves keep, and that everything above a shelf is proved against.
 ghost use Rattle.std.specs.Prelude.{ℕ};
 ghost use Rattle.shelf.specs.Table.{Table, Shaped};
-ghost use Rattle.shelf.specs.Calls.{Outcome, refuses_read, refuses_word, refuses_lay, refuses_exchange, Read, Written, LayAnswer, Patched, Exchanged};
+ghost use Rattle.shelf.specs.Calls.{Outcome, refuses_read, refuses_word, refuses_lay, refuses_exchange, Read, Written, LayAnswer, Patched, Exchanged, Clears};
 
 use crate::refusal::Refusal;
 
@@ -42,4 +42,11 @@ pub trait Serviceable: Shelf {
     // A fresh device in a bay: its cells are blank, and it may run again.
     fn exchange(&mut self, bay: usize) -> Result<(), Refusal>
         ensures { Outcome Self.Shelf.table Self.Shelf.sound self.old self.new (refuses_exchange bay) (Exchanged bay) result };
+}
+
+// A shelf from which a whole place can be taken, as where its words are not those that any calls left.
+pub trait Clearable: Shelf {
+    // Makes every cell of a place blank. A place that the shelf lacks has no cells.
+    fn clear(&mut self, place: usize)
+        ensures { Clears Self.Shelf.table Self.Shelf.sound place self.old self.new };
 }
