@@ -9,7 +9,10 @@ mod number;
 mod opening;
 mod read;
 
+pub use arguments::read_exactly;
 pub use calls::{ShelfCall, read_call};
 pub use command::{Command, Description, Fault, FieldName};
+pub use cursor::{Cursor, name_of};
+pub use number::numbers;
 pub use opening::{Opening, read_opening};
 pub use read::read_command;
