@@ -7,6 +7,7 @@ use crate::written_plan::Written;
 use field::Field;
 
 // A plan of any kind in one field, as where a description says which.
+#[derive(Drop)]
 pub enum AnyPlan<F> {
     Powers(Powers<F>),
     Groups(Groups<F>),

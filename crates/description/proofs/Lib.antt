@@ -1,0 +1,9 @@
+pub mod Cutting
+pub mod RowLoop
+pub mod Printed
+pub mod Tokenizing
+pub mod Numbers
+pub mod Back
+pub mod Given
+pub mod Readers
+pub mod Examples

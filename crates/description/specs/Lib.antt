@@ -1,0 +1,10 @@
+pub mod Outcome
+pub mod Lines
+pub mod Cuts
+pub mod Describing
+pub mod Kinds
+pub mod Reading
+pub mod Printing
+pub mod Printable
+pub mod Small
+pub mod Wording
