@@ -34,7 +34,7 @@ fn count_at(bytes: &[u8], at: usize) -> u16
 }
 
 // How many places the bytes have, or none where they are no image.
-fn image_count(bytes: &[u8]) -> Option<u16>
+pub fn image_count(bytes: &[u8]) -> Option<u16>
     ensures { result ≡ (if is_image bytes.now then Some (count_of bytes.now) else None) }
 {
     if bytes.len() < 2 {

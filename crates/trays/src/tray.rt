@@ -8,10 +8,10 @@ use crate::misfit::Misfit;
 use shelf::{MOST_LIMIT, MOST_PLACES, Refusal, Serviceable, Shape, Shelf};
 
 // The least limit of a tray, and the limit of one that is unfit.
-pub(crate) const LEAST_LIMIT: u32 = 16;
+pub const LEAST_LIMIT: u32 = 16;
 
 // What a blank slot is stored as.
-pub(crate) const BLANK: u32 = u32::MAX;
+pub const BLANK: u32 = u32::MAX;
 
 // A tray: one bay over a caller's words. A slot at or above the limit is blank. It always runs, and loses nothing.
 #[derive(Drop)]
@@ -21,7 +21,7 @@ pub struct Tray<'a> {
 }
 
 // The word of a slot, or lost where it is blank.
-fn slot_word(word: u32, limit: u32) -> Result<u32, Refusal>
+pub fn slot_word(word: u32, limit: u32) -> Result<u32, Refusal>
     ensures { result ≡ word_in (slot limit word) }
 {
     if word < limit {
@@ -29,6 +29,19 @@ fn slot_word(word: u32, limit: u32) -> Result<u32, Refusal>
     } else {
         Err(Refusal::Lost)
     }
+}
+
+// Whether the limit, and then the number of words, is in range.
+pub fn check_words(words: &[u32], limit: u32) -> Result<(), Misfit>
+    ensures { result ≡ checked words.now limit }
+{
+    if !(LEAST_LIMIT..=MOST_LIMIT).contains(&limit) {
+        return Err(Misfit::Limit);
+    }
+    if !(1..=MOST_PLACES).contains(&words.len()) {
+        return Err(Misfit::Length);
+    }
+    Ok(())
 }
 
 impl<'a> Tray<'a> {
@@ -43,13 +56,7 @@ impl<'a> Tray<'a> {
     pub fn check(&self) -> Result<(), Misfit>
         ensures { result ≡ checked self.now.words.now self.now.limit }
     {
-        if !(LEAST_LIMIT..=MOST_LIMIT).contains(&self.limit) {
-            return Err(Misfit::Limit);
-        }
-        if !(1..=MOST_PLACES).contains(&self.words.len()) {
-            return Err(Misfit::Length);
-        }
-        Ok(())
+        check_words(self.words, self.limit)
     }
 }
 

@@ -1,0 +1,5 @@
+pub mod Disks
+pub mod Faults
+pub mod Marked
+pub mod Wide
+pub mod Images
