@@ -16,3 +16,4 @@ pub mod Lays
 pub mod Mends
 pub mod Serving
 pub mod Sweeping
+pub mod Clears

@@ -13,6 +13,15 @@ pub struct Cursor<'a> {
     rest: &'a [u8],
 }
 
+impl<'a> Cursor<'a> {
+    // A cursor at the first token of a text.
+    pub fn new(text: &'a [u8]) -> Cursor<'a>
+        ensures { tokens_left result ≡ tokens text.now }
+    {
+        Cursor { rest: text }
+    }
+}
+
 impl<'a> Iterator for Cursor<'a> {
     type Item = &'a [u8];
 

@@ -13,6 +13,6 @@ pub use arguments::read_exactly;
 pub use calls::{ShelfCall, read_call};
 pub use command::{Command, Description, Fault, FieldName};
 pub use cursor::{Cursor, name_of};
-pub use number::numbers;
+pub use number::{number as read_number, numbers};
 pub use opening::{Opening, read_opening};
 pub use read::read_command;

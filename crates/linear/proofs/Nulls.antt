@@ -1,21 +1,19 @@
--- Where something is left of a target, a vector gives zero on all pivots and not on it.
-use Rattle.std.proofs.Common.{◌≡◌, ℕ, ◌<◌, List, [], ◌∷◌, map, length, slice_index, get_or, set, sym, refl, ap, ap₂, ◌∙◌, subst, inl, inr, arith}
+-- Vectors on which all pivots give zero, whatever stands for the words.
+use Rattle.std.proofs.Common.{◌≡◌, ℕ, ◌%◌, ◌<◌, List, [], ◌∷◌, map, length, slice_index, get_or, set, sym, refl, ap, ap₂, ◌∙◌, subst, arith}
 use Rattle.std.specs.List.{All, range_with_len}
-use Rattle.std.proofs.lemmas.List.{length-set, get_or-set_same, get_or-set_other}
 use Rattle.std.proofs.lemmas.List.Elements.{All-nil, All-cons, All-head, All-tail}
 use Rattle.std.proofs.lemmas.List.FromFn.{length-map-range_with_len, get_or-map-range_with_len}
-use Rattle.std.proofs.lemmas.Bool.{cases_eq}
 use Rattle.field.specs.Arithmetic.{Arithmetic, Lawful}
 use Rattle.field.specs.Laws.{zero_below, one_below, code, add-zero, mul-one}
 use Rattle.plan.specs.Bounds.{most_data}
 use Rattle.plan.specs.Rows.{dot, Vector}
 use Rattle.plan.proofs.Dots.{Codes, vector_codes, dot-set}
 use Rattle.linear.specs.Equations.{column, entry, gives}
-use Rattle.linear.specs.Elimination.{Zero, Echelon}
+use Rattle.linear.specs.Elimination.{value, Zero, Echelon, VanishesOnPivots}
 use Rattle.plan.proofs.Ring.{minus, minus_below, add-minus, sub-from, mul-zero, zero-mul}
 use Rattle.plan.proofs.Sums.{map_codes}
 use Rattle.plan.proofs.Vectors.{vector-set}
-use Rattle.linear.proofs.Values.{entry_below, gives_below}
+use Rattle.linear.proofs.Values.{entry_below, gives_below, value_below, front_codes}
 use Rattle.linear.specs.declared.equation.Equation.{Equation}
 use Rattle.linear.specs.declared.pivot.Pivot.{Pivot}
 
@@ -76,62 +74,71 @@ module _ (k : Arithmetic) (l : Lawful k) where
       ∙ ap (k.add 0) (mul-one k l _ low)
       ∙ l.zero-add _ low
 
-  -- the vector, moved in the column of the pivot so that the pivot gives zero
-  abbrev settled : Pivot → List ℕ → List ℕ
-  settled p v = set v p.column (k.add (get_or v p.column 0) (minus k l (gives k p.equation.row v)))
+  -- s stands for the words
+  module _ (s : ℕ) (hs : s < k.order) where
+    value_code : (e : Equation) (v : List ℕ) → Vector k most_data v → value k (s ∷ v) e < k.order
+    value_code e v h = value_below k l (s ∷ v) e (front_codes k l s v hs h)
 
-  settled_code : (p : Pivot) (v : List ℕ) → Vector k most_data v → k.add (get_or v p.column 0) (minus k l (gives k p.equation.row v)) < k.order
-  settled_code p v h = l.add_below _ _ (h.below p.column p.fits) (minus_below k l _ (code_of p.equation v h))
+    -- the vector, moved in the column of the pivot so that the pivot gives zero
+    abbrev settled : Pivot → List ℕ → List ℕ
+    settled p v = set v p.column (k.add (get_or v p.column 0) (minus k l (value k (s ∷ v) p.equation)))
 
-  pub settled_vector : (p : Pivot) (v : List ℕ) → Vector k most_data v → Vector k most_data (settled p v)
-  settled_vector p v h = vector-set k l most_data v p.column _ (settled_code p v h) h
+    settled_code : (p : Pivot) (v : List ℕ) → Vector k most_data v → k.add (get_or v p.column 0) (minus k l (value k (s ∷ v) p.equation)) < k.order
+    settled_code p v h = l.add_below _ _ (h.below p.column p.fits) (minus_below k l _ (value_code p.equation v h))
 
-  -- what a row then gives
-  gives-settled : (p : Pivot) (e : Equation) (v : List ℕ) → Vector k most_data v → gives k e.row (settled p v) ≡ k.add (gives k e.row v) (k.mul (entry k e p.column) (minus k l (gives k p.equation.row v)))
-  gives-settled p e v h =
-      let x = get_or v p.column 0 in
-      let hx = h.below p.column p.fits in
-      let m = minus k l (gives k p.equation.row v) in
-      let hm = minus_below k l _ (code_of p.equation v h) in
-      gives-set e v p.column (k.add x m) p.fits (settled_code p v h) h
-      ∙ ap (λ y. k.add (gives k e.row v) (k.mul (entry k e p.column) y)) (sub-from k l (k.add x m) x m (settled_code p v h) hx hm (l.add_comm m x hm hx))
+    settled_vector : (p : Pivot) (v : List ℕ) → Vector k most_data v → Vector k most_data (settled p v)
+    settled_vector p v h = vector-set k l most_data v p.column _ (settled_code p v h) h
 
-  -- the pivot gives zero, since it has one in its column
-  settled_here : (p : Pivot) (v : List ℕ) → Vector k most_data v → entry k p.equation p.column ≡ 1 → gives k p.equation.row (settled p v) ≡ 0
-  settled_here p v h one =
-      let low = code_of p.equation v h in
-      gives-settled p p.equation v h
-      ∙ ap (k.add (gives k p.equation.row v)) (ap (λ y. k.mul y (minus k l (gives k p.equation.row v))) one ∙ l.one-mul _ (minus_below k l _ low))
-      ∙ add-minus k l _ low
+    -- what an equation then gives
+    value-settled : (p : Pivot) (e : Equation) (v : List ℕ) → Vector k most_data v → value k (s ∷ settled p v) e ≡ k.add (value k (s ∷ v) e) (k.mul (entry k e p.column) (minus k l (value k (s ∷ v) p.equation)))
+    unfolding dot
+    value-settled p e v h =
+        let x = get_or v p.column 0 in
+        let hx = h.below p.column p.fits in
+        let m = minus k l (value k (s ∷ v) p.equation) in
+        let hm = minus_below k l _ (value_code p.equation v h) in
+        let w = k.mul (e.word % k.order) s in
+        ap (k.add w)
+        (gives-set e v p.column (k.add x m) p.fits (settled_code p v h) h
+        ∙ ap (λ y. k.add (gives k e.row v) (k.mul (entry k e p.column) y)) (sub-from k l (k.add x m) x m (settled_code p v h) hx hm (l.add_comm m x hm hx)))
+        ∙ sym (l.add_assoc w (gives k e.row v) (k.mul (entry k e p.column) m) (l.mul_below _ s (code k l e.word) hs) (code_of e v h) (l.mul_below _ m (entry_below k l e p.column) hm))
 
-  -- a row with zero in that column gives what it gave
-  settled_else : (p : Pivot) (e : Equation) (v : List ℕ) → Vector k most_data v → Zero k p.column e → gives k e.row (settled p v) ≡ gives k e.row v
-  settled_else p e v h z =
-      gives-settled p e v h
-      ∙ ap (k.add (gives k e.row v)) (ap (λ y. k.mul y (minus k l (gives k p.equation.row v))) z ∙ zero-mul k l _ (minus_below k l _ (code_of p.equation v h)))
-      ∙ add-zero k l _ (code_of e v h)
+    -- the pivot gives zero, since it has one in its column
+    settled_here : (p : Pivot) (v : List ℕ) → Vector k most_data v → entry k p.equation p.column ≡ 1 → value k (s ∷ settled p v) p.equation ≡ 0
+    settled_here p v h one =
+        let low = value_code p.equation v h in
+        value-settled p p.equation v h
+        ∙ ap (k.add (value k (s ∷ v) p.equation)) (ap (λ y. k.mul y (minus k l (value k (s ∷ v) p.equation))) one ∙ l.one-mul _ (minus_below k l _ low))
+        ∙ add-minus k l _ low
 
-  -- settled for all pivots, the last one first
-  abbrev pub null : List Pivot → List ℕ → List ℕ
-  null [] v = v
-  null (p ∷ ps) v = settled p (null ps v)
+    -- an equation with zero in that column gives what it gave
+    settled_else : (p : Pivot) (e : Equation) (v : List ℕ) → Vector k most_data v → Zero k p.column e → value k (s ∷ settled p v) e ≡ value k (s ∷ v) e
+    settled_else p e v h z =
+        value-settled p e v h
+        ∙ ap (k.add (value k (s ∷ v) e)) (ap (λ y. k.mul y (minus k l (value k (s ∷ v) p.equation))) z ∙ zero-mul k l _ (minus_below k l _ (value_code p.equation v h)))
+        ∙ add-zero k l _ (value_code e v h)
 
-  pub null_vector : (ps : List Pivot) (v : List ℕ) → Vector k most_data v → Vector k most_data (null ps v)
-  null_vector [] v h = h
-  null_vector (p ∷ ps) v h = settled_vector p (null ps v) (null_vector ps v h)
+    -- settled for all pivots, the last one first
+    abbrev pub null : List Pivot → List ℕ → List ℕ
+    null [] v = v
+    null (p ∷ ps) v = settled p (null ps v)
 
-  -- Each pivot gives zero: the later ones have zero in the columns of the earlier ones.
-  pub null_pivots : (ps : List Pivot) (v : List ℕ) → Echelon k ps → Vector k most_data v → All (λ p. gives k p.equation.row (null ps v) ≡ 0) ps
-  null_pivots [] v h hv = All-nil (λ p. gives k p.equation.row v ≡ 0)
-  null_pivots (p ∷ ps) v h hv =
-      let w = null ps v in
-      let hw = null_vector ps v hv in
-      let before = null_pivots ps v h.2 hv in
-      All-cons (λ q. gives k q.equation.row (settled p w) ≡ 0) p ps (settled_here p w hw h.0) (λ n d i. settled_else p (get_or ps n d).equation w hw (h.1 n d i) ∙ before n d i)
+    pub null_vector : (ps : List Pivot) (v : List ℕ) → Vector k most_data v → Vector k most_data (null ps v)
+    null_vector [] v h = h
+    null_vector (p ∷ ps) v h = settled_vector p (null ps v) (null_vector ps v h)
 
-  -- A row with zero in the columns of the pivots gives what it gave.
-  pub null_else : (ps : List Pivot) (e : Equation) (v : List ℕ) → Vector k most_data v → All (λ p. Zero k p.column e) ps → gives k e.row (null ps v) ≡ gives k e.row v
-  null_else [] e v hv z = refl
-  null_else (p ∷ ps) e v hv z =
-      settled_else p e (null ps v) (null_vector ps v hv) (All-head (λ p. Zero k p.column e) p ps z)
-      ∙ null_else ps e v hv (All-tail (λ p. Zero k p.column e) p ps z)
+    -- Each pivot gives zero: the later ones have zero in the columns of the earlier ones.
+    pub null_pivots : (ps : List Pivot) (v : List ℕ) → Echelon k ps → Vector k most_data v → VanishesOnPivots k (s ∷ null ps v) ps
+    null_pivots [] v h hv = All-nil (λ p. value k (s ∷ v) p.equation ≡ 0)
+    null_pivots (p ∷ ps) v h hv =
+        let w = null ps v in
+        let hw = null_vector ps v hv in
+        let before = null_pivots ps v h.2 hv in
+        All-cons (λ q. value k (s ∷ settled p w) q.equation ≡ 0) p ps (settled_here p w hw h.0) (λ n d i. settled_else p (get_or ps n d).equation w hw (h.1 n d i) ∙ before n d i)
+
+    -- An equation with zero in the columns of the pivots gives what it gave.
+    pub null_else : (ps : List Pivot) (e : Equation) (v : List ℕ) → Vector k most_data v → All (λ p. Zero k p.column e) ps → value k (s ∷ null ps v) e ≡ value k (s ∷ v) e
+    null_else [] e v hv z = refl
+    null_else (p ∷ ps) e v hv z =
+        settled_else p e (null ps v) (null_vector ps v hv) (All-head (λ p. Zero k p.column e) p ps z)
+        ∙ null_else ps e v hv (All-tail (λ p. Zero k p.column e) p ps z)

@@ -5,13 +5,13 @@ use Rattle.std.proofs.lemmas.List.Elements.{All-nil, All-cons, All-head, All-tai
 use Rattle.std.proofs.lemmas.List.{length_push, get_or_push, get_or_append_left}
 use Rattle.std.proofs.lemmas.Bool.{cases_lt}
 use Rattle.field.specs.Arithmetic.{Arithmetic, Lawful}
-use Rattle.field.specs.Laws.{zero_below, code}
+use Rattle.field.specs.Laws.{code}
 use Rattle.plan.specs.Bounds.{most_data}
 use Rattle.plan.proofs.Dots.{Codes, vector_codes}
 use Rattle.linear.specs.Equations.{entry, times, cleared}
 use Rattle.linear.specs.Elimination.{value, Zero, ZeroBefore, TakesPivot, Echelon, Vanishes, VanishesOnPivots, Eliminated}
 use Rattle.plan.proofs.Ring.{mul-zero}
-use Rattle.linear.proofs.Values.{front_codes, value_null, gives_none, value_below, value-times, value-cleared, entry_below, zero-times, one-times, cleared-here, cleared-else}
+use Rattle.linear.proofs.Values.{value_below, value-times, value-cleared, entry_below, zero-times, one-times, cleared-here, cleared-else}
 use Rattle.linear.specs.declared.equation.Equation.{Equation}
 use Rattle.linear.specs.declared.pivot.Pivot.{Pivot}
 
@@ -180,12 +180,11 @@ module _ (k : Arithmetic) (l : Lawful k) where
       room = let long = length_push ps p in let h = s.room in omega arith;
     }
 
-  -- At the end nothing but words is left, and a vector with zero for the words gives zero on it.
-  pub eliminated : (es rest : List Equation) (ps : List Pivot) → Progress k es most_data rest ps → Eliminated k es ps
+  -- At the end nothing but words is left.
+  pub eliminated : (es rest : List Equation) (ps : List Pivot) → Progress k es most_data rest ps → Eliminated k es rest ps
   eliminated es rest ps s = record {
-    onward = λ u h v. (s.onward u (vector_codes k l (suc most_data) u h) v).0;
-    back = λ v h p.
-        s.back (0 ∷ v) (front_codes k l 0 v (zero_below k l) h) p
-        (λ n d i. let e = get_or rest n d in value_null k l v e h ∙ gives_none k l e v h (λ j b. s.done j b n d i));
+    onward = λ u h v. s.onward u (vector_codes k l (suc most_data) u h) v;
+    back = λ u h p v. s.back u (vector_codes k l (suc most_data) u h) p v;
     echelon = s.echelon;
+    rowless = s.done;
   }

@@ -127,11 +127,11 @@ module _ (k : Arithmetic) (l : Lawful k) (x : Coefficients) (fit : Fitting k x) 
         (λ b d e. sym (gives_front b z hz) ∙ of_rows x set (λ e. gives k e.row z ≡ 0) 0 (x.n + x.m) nulls b (omega arith) (omega arith) e))
 
     -- So the set tells a row just where its pivots leave nothing of it.
-    pub decided : (ps : List Pivot) → Eliminated k rows ps → (t : Bool) → t ≡ not (has_row k (reduced k ps (bay_equation x r))) → MatchBool t (Tells k x set r) (Tells k x set r → ⊥)
-    decided ps h true e =
+    pub decided : (gone : List Equation) (ps : List Pivot) → Eliminated k rows gone ps → (t : Bool) → t ≡ not (has_row k (reduced k ps (bay_equation x r))) → MatchBool t (Tells k x set r) (Tells k x set r → ⊥)
+    decided gone ps h true e =
         let w = k.sub (0 % k.order) ((reduced k ps (bay_equation x r)).word % k.order) in
-        told_tells w (tells k l rows ps (whole_row x r) h (sym (not-not (has_row k (reduced k ps (bay_equation x r)))) ∙ ap not (sym e)) w refl)
-    decided ps h false e = open_tells_not (opens k l rows ps (whole_row x r) h (sym (not-not (has_row k (reduced k ps (bay_equation x r)))) ∙ ap not (sym e)))
+        told_tells w (tells k l rows gone ps (whole_row x r) h (sym (not-not (has_row k (reduced k ps (bay_equation x r)))) ∙ ap not (sym e)) w refl)
+    decided gone ps h false e = open_tells_not (opens k l rows gone ps (whole_row x r) h (sym (not-not (has_row k (reduced k ps (bay_equation x r)))) ∙ ap not (sym e)))
 
 -- Only the bays of the plan count: sets that agree on them tell the same rows.
 module _ (k : Arithmetic) (x : Coefficients) (s t : ℕ → Bool) (same : (b : ℕ) → b < x.n + x.m → s b ≡ t b) where

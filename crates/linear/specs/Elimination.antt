@@ -48,9 +48,10 @@ Vanishes k u es = All (λ e. value k u e ≡ 0) es
 abbrev pub VanishesOnPivots : Arithmetic → List ℕ → List Pivot → Type 0
 VanishesOnPivots k u ps = All (λ p. value k u p.equation ≡ 0) ps
 
--- The pivots say what the equations said: a vector that gives zero on the ones gives it on the others, and conversely where it has zero
--- for the words.
-pub record Eliminated (k : Arithmetic) (es : List Equation) (ps : List Pivot) : Type 0 where
-  pub onward : (u : List ℕ) → Vector k (suc most_data) u → Vanishes k u es → VanishesOnPivots k u ps
-  pub back : (v : List ℕ) → Vector k most_data v → VanishesOnPivots k (0 ∷ v) ps → Vanishes k (0 ∷ v) es
+-- The pivots and the rest say what the equations said: a vector gives zero on the ones just where it gives zero on the others. Of the
+-- rest only words are left.
+pub record Eliminated (k : Arithmetic) (es rest : List Equation) (ps : List Pivot) : Type 0 where
+  pub onward : (u : List ℕ) → Vector k (suc most_data) u → Vanishes k u es → VanishesOnPivots k u ps × Vanishes k u rest
+  pub back : (u : List ℕ) → Vector k (suc most_data) u → VanishesOnPivots k u ps → Vanishes k u rest → Vanishes k u es
   pub echelon : Echelon k ps
+  pub rowless : (j : ℕ) → j < most_data → All (Zero k j) rest

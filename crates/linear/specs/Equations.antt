@@ -32,6 +32,10 @@ abbrev pub Verdict : Arithmetic → List Equation → List ℕ → Option ℕ �
 Verdict k es target (Some w) = Told k es target w
 Verdict k es target None = Open k es target
 
+-- some data vector satisfies all of the equations
+abbrev pub Satisfiable : Arithmetic → List Equation → Type 0
+Satisfiable k es = (v : List ℕ) × Vector k most_data v × All (Satisfies k v) es
+
 -- the code in a column of an equation
 abbrev pub entry : Arithmetic → Equation → ℕ → ℕ
 entry k e j = column k e.row j

@@ -53,15 +53,15 @@ fn clear_all<F: Field>(pivot: Pivot, equations: &mut Equations)
     }
 }
 
-// The pivots, column by column: no vector is lost or gained, and none has anything in the column of an earlier one.
-pub(crate) fn eliminate<F: Field>(equations: Equations) -> Pivots
-    ensures { Eliminated F.Field.arithmetic equations.items result.items }
+// The pivots, column by column, and what then remains, of which only words are left: no vector is lost or gained, and no pivot has
+// anything in the column of an earlier one.
+pub(crate) fn eliminate<F: Field>(remaining: &mut Equations) -> Pivots
+    ensures { Eliminated F.Field.arithmetic remaining.old.items remaining.new.items result.items }
 {
-    let mut remaining = equations;
     let mut pivots = Pivots::new();
     for column in 0..MOST_DATA_BAYS {
-        if let Some(pivot) = take_pivot::<F>(&mut remaining, column) {
-            clear_all::<F>(pivot, &mut remaining);
+        if let Some(pivot) = take_pivot::<F>(remaining, column) {
+            clear_all::<F>(pivot, remaining);
             pivots.push(pivot);
         }
     }

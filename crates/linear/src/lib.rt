@@ -9,4 +9,4 @@ mod verdict;
 
 pub use crate::equation::{Equation, Equations, MOST_EQUATIONS};
 pub use crate::sets::{told_bays, told_without};
-pub use crate::verdict::told;
+pub use crate::verdict::{agree, told};

@@ -46,7 +46,8 @@ pub fn told_bays<P: Plan>(plan: &P, bays: u32) -> u32
     ensures below { result < 2 ^ ((P.Plan.coefficients plan.now).n + (P.Plan.coefficients plan.now).m) }
     ensures just { TellsJust P.F.Field.arithmetic (P.Plan.coefficients plan.now) (bit bays) result }
 {
-    let pivots = eliminate::<P::F>(rows_of(plan, bays));
+    let mut rows = rows_of(plan, bays);
+    let pivots = eliminate::<P::F>(&mut rows);
     bits_where(plan.data_bays() + plan.check_bays(), |bay| {
         tell(&pivots, plan, bay)
     })

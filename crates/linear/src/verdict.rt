@@ -1,4 +1,6 @@
-ghost use Rattle.linear.specs.Equations.{Verdict};
+ghost use Rattle.std.specs.Prelude.{◌≡◌, ◌%◌, ◌==◌, MatchBool};
+ghost use Rattle.std.specs.List.{list_all};
+ghost use Rattle.linear.specs.Equations.{Verdict, Satisfiable};
 
 use crate::elimination::{eliminate, reduce};
 use crate::equation::{Equation, Equations};
@@ -13,10 +15,29 @@ pub fn told<F: Field>(equations: Equations, target: [u32; MOST_DATA_BAYS]) -> Op
         row: target,
         word: 0,
     };
-    let rest = reduce::<F>(&eliminate::<F>(equations), target);
+    let mut equations = equations;
+    let rest = reduce::<F>(&eliminate::<F>(&mut equations), target);
     if rest.has_row::<F>() {
         None
     } else {
         Some(F::difference(0, rest.word))
     }
+}
+
+// Whether each word is zero.
+fn no_words<F: Field>(equations: &[Equation]) -> bool
+    ensures { result ≡ list_all (λ e. e.word % F.Field.arithmetic.order == 0) equations.now }
+{
+    equations
+        .iter()
+        .all(|equation| equation.word % F::size() == 0)
+}
+
+// Whether some data vector satisfies all of the equations: no word is left where only words are.
+pub fn agree<F: Field>(equations: Equations) -> bool
+    ensures { MatchBool result (Satisfiable F.Field.arithmetic equations.items) (Satisfiable F.Field.arithmetic equations.items → ⊥) }
+{
+    let mut rest = equations;
+    eliminate::<F>(&mut rest);
+    no_words::<F>(&rest)
 }

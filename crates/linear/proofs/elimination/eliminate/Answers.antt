@@ -10,7 +10,7 @@ pub loop-column-preserved : goal.loop-column-preserved
 loop-column-preserved g c =
     let k = g.F.Field.arithmetic in
     let l = g.met.F.Field.lawful in
-    let es = c.args.equations.items in
+    let es = c.args.remaining.now.items in
     let j = c.loop-column.column in
     let old = c.loop-column.remaining.items in
     let new = c.take_pivot.new.remaining.items in
@@ -34,4 +34,4 @@ returns g c =
     let rest = c.loop-column.remaining.items in
     let ps = c.loop-column.pivots.items in
     let all : c.loop-column.column ≡ most_data = omega (arith, c.loop-column.auto.column-end, c.loop-column-test.false) in
-    eliminated k g.met.F.Field.lawful c.args.equations.items rest ps (subst (λ j. Progress k c.args.equations.items j rest ps) all c.loop-column.invariant)
+    eliminated k g.met.F.Field.lawful c.args.remaining.now.items rest ps (subst (λ j. Progress k c.args.remaining.now.items j rest ps) all c.loop-column.invariant)

@@ -18,4 +18,4 @@ returns-clause-just g c b i =
     let fews = fit.checks_high in
     let each = c.bits_where.ensures.each b (omega arith) (omega arith) in
     let answer : bit c.bits_where.result b ≡ not (has_row k (reduced k ps (bay_equation x b))) = search rules in
-    decided k g.met.P.F.Field.lawful x fit (bit c.args.bays) b ps (subst (λ es. Eliminated k es ps) c.rows_of.ensures c.eliminate-pivots.ensures) (bit c.bits_where.result b) answer
+    decided k g.met.P.F.Field.lawful x fit (bit c.args.bays) b c.eliminate-pivots.new.remaining.items ps (subst (λ es. Eliminated k es c.eliminate-pivots.new.remaining.items ps) c.rows_of-rows.ensures c.eliminate-pivots.ensures) (bit c.bits_where.result b) answer

@@ -1,0 +1,53 @@
+// The blank images of a new archive.
+use crate::field_kind::{FieldKind, plan_of};
+use crate::filing::{Filing, is_there};
+use crate::image::image_bytes;
+use crate::text::text_of;
+use anyhow::{Context, bail};
+use description::{Below, Description};
+use plan::Plan;
+use trays::blank_words;
+
+// Writes aside a blank image for each path, where there is no file yet.
+fn write_blank<F: FieldKind>(
+    rt: &HostRuntime,
+    paths: &[Vec<u8>],
+    places: usize,
+    filing: &mut Filing,
+) -> anyhow::Result<()> {
+    let bytes = image_bytes::<F>(rt, &blank_words(rt.alloc(), places)?)?;
+    for path in paths {
+        let path = text_of(rt.alloc(), path)?;
+        if is_there(rt, &path) {
+            bail!("{path} is there already");
+        }
+        filing.write(rt, &path, &bytes)?;
+    }
+    Ok(())
+}
+
+// Writes a blank image for each bay of a description. Where one of the files is there already, none is written.
+pub(crate) fn create<F: FieldKind>(
+    rt: &HostRuntime,
+    path: &str,
+    description: &Description,
+) -> anyhow::Result<()> {
+    let plan = plan_of::<F>(rt.alloc(), description).context(format_args!("{path}"))?;
+    let Below::Disks(paths) = &description.below else {
+        bail!("{path}: its bays are those of archives: create each by its own description");
+    };
+    let bays = plan.data_bays() + plan.check_bays();
+    if paths.len() != bays {
+        bail!("{path}: the plan has {bays} bays, and {} are named", paths.len());
+    }
+    let mut filing = Filing::new(rt.alloc());
+    match write_blank::<F>(rt, paths, description.places as usize, &mut filing) {
+        Ok(()) => filing.finish(rt, path)?,
+        Err(e) => {
+            filing.remove(rt);
+            return Err(e);
+        }
+    }
+    println!(rt; "{path}: created {bays} blank images of {} places", description.places)?;
+    Ok(())
+}

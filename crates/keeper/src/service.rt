@@ -1,0 +1,93 @@
+// Fresh devices in the bays below an archive, and what mends them.
+use crate::archive::Archive;
+use crate::field_kind::FieldKind;
+use crate::origin::Origin;
+use crate::part::{NotServed, Part};
+use shelf::Shape;
+use shelf::Shelf;
+
+// How many places are swept between two words of progress.
+const STEP: usize = 4096;
+
+// What the mends of a sweep answered.
+#[derive(Clone, Copy)]
+struct Tally {
+    whole: u32,
+    mended: u32,
+    lost: u32,
+    stopped: u32,
+}
+
+// Puts a fresh device in a bay below. Its image is written anew, whatever was there.
+pub(crate) fn exchange<F: FieldKind, S: Part<F>>(
+    rt: &HostRuntime,
+    archive: &mut Archive<F, S>,
+    bay: usize,
+) -> anyhow::Result<()> {
+    S::exchange(&mut archive.array, bay).map_err(NotServed::error)?;
+    if let Some(Origin::Image(image)) = archive.inner.origins.get_mut(bay) {
+        image.before = None;
+        image.trouble = None;
+    }
+    println!(rt; "bay {bay}: exchanged")?;
+    Ok(())
+}
+
+// Counts the answers of mends by their numbers.
+fn count_answers(answers: &[u8], mut counts: Tally) -> Tally {
+    for answer in answers {
+        match *answer {
+            0 => counts.whole = counts.whole.saturating_add(1),
+            1 => counts.mended = counts.mended.saturating_add(1),
+            6 => counts.stopped = counts.stopped.saturating_add(1),
+            _ => counts.lost = counts.lost.saturating_add(1),
+        }
+    }
+    counts
+}
+
+// Sweeps a bay below over all places, and says on standard error how far it is.
+pub(crate) fn sweep_bay<F: FieldKind, S: Part<F>>(
+    rt: &HostRuntime,
+    archive: &mut Archive<F, S>,
+    bay: usize,
+) -> anyhow::Result<()> {
+    let Shape { places, .. } = archive.shape();
+    let mut answers = vec![in rt.alloc(); 0u8; STEP]?;
+    let mut counts = Tally {
+        whole: 0,
+        mended: 0,
+        lost: 0,
+        stopped: 0,
+    };
+    for first in (0..places).step_by(STEP) {
+        let count = STEP.min(places - first);
+        S::sweep(&mut archive.array, bay, first, &mut answers[..count])
+            .map_err(NotServed::error)?;
+        counts = count_answers(&answers[..count], counts);
+        if places > STEP {
+            eprintln!(rt; "bay {bay}: swept {} of {places} places", first + count)?;
+        }
+    }
+    let Tally { whole, mended, lost, stopped } = counts;
+    println!(rt; "bay {bay}: whole {whole}, mended {mended}, lost {lost}, stopped {stopped}")?;
+    Ok(())
+}
+
+// Sweeps one bay below, or all.
+pub(crate) fn sweep<F: FieldKind, S: Part<F>>(
+    rt: &HostRuntime,
+    archive: &mut Archive<F, S>,
+    bay: Option<u32>,
+) -> anyhow::Result<()> {
+    match bay {
+        Some(bay) => sweep_bay(rt, archive, bay as usize),
+        None => {
+            let bays = Shape::from(archive.array.below().shape()).bays;
+            for bay in 0..bays {
+                sweep_bay(rt, archive, bay)?;
+            }
+            Ok(())
+        }
+    }
+}

@@ -1,0 +1,4 @@
+pub mod Equations
+pub mod Giving
+pub mod Agreeing
+pub mod Places

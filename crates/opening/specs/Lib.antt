@@ -1,0 +1,3 @@
+pub mod Words
+pub mod Agreement
+pub mod Opening

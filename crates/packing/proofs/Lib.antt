@@ -1,0 +1,5 @@
+pub mod Steps
+pub mod Words
+pub mod Back
+pub mod Enough
+pub mod Examples

@@ -1,0 +1,4 @@
+pub mod Wording
+pub mod Packed
+pub mod Unpacked
+pub mod Laws
