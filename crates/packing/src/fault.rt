@@ -1,4 +1,3 @@
-// Why a file isn't packed or unpacked.
 ghost use Rattle.std.specs.Prelude.{◌≡◌, Some};
 ghost use Rattle.packing.specs.Wording.{wording};
 ghost use Rattle.packing.specs.declared.fault.PackFault.TheVariants.{Memory};
@@ -6,6 +5,7 @@ ghost use Rattle.packing.specs.declared.fault.PackFault.TheVariants.{Memory};
 use std::alloc::{AllocError, AllocFailed};
 use std::fmt;
 
+// Why a file isn't packed or unpacked.
 #[derive(Clone, Copy, PartialEq, Eq, Debug)]
 pub enum PackFault {
     // The file has 2^32 bytes or more.

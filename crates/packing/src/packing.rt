@@ -1,8 +1,7 @@
-// How bytes go into words.
 ghost use Rattle.std.specs.Prelude.{◌≡◌};
 ghost use Rattle.packing.specs.Packed.{limit, length_words, words_for};
 
-// How many bytes a word holds, or how many words hold a byte.
+// How bytes go into words.
 #[derive(Clone, Copy, PartialEq, Eq, Debug)]
 pub enum Packing {
     // Two words of 4 bits for each byte, the low half first.

@@ -22,7 +22,7 @@ all_told_push (Some m ∷ os) o = rw (all_told_push os o) (onto (all_told os) o)
     onto (Some ns) (Some n) = refl
 
 -- a sum that has more than 64 bits never has fewer again
-fitting_more : (m n : ℕ) → fitting (m + n) ≡ option_and_then (λ k. fitting (k + n)) (fitting m)
+pub fitting_more : (m n : ℕ) → fitting (m + n) ≡ option_and_then (λ k. fitting (k + n)) (fitting m)
 fitting_more m n =
     ⊎_elim
     (λ (h : m < 2 ^ 64). rw (lt-ltb m (2 ^ 64) h))
