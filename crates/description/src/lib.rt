@@ -13,4 +13,3 @@ pub use description::{Below, Description, PlanName};
 pub use fault::{Fault, Wanted};
 pub use printing::print_description;
 pub use reading::read_description;
-

@@ -99,7 +99,10 @@ pub(crate) fn open_described<F: FieldKind, S: Part<F>>(
     let rack = Rack::new(shelves);
     let below = Shape::from(rack.shape());
     if below.bays != bays || below.limit < F::size() {
-        bail!("{path}: the plan has {bays} bays, and {} go together below it", below.bays);
+        bail!(
+            "{path}: the plan has {bays} bays, and {} go together below it",
+            below.bays
+        );
     }
     let opened = open(rt.alloc(), rack, plan)?;
     let torn = opened.torn;

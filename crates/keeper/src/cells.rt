@@ -58,13 +58,17 @@ pub(crate) fn list_lost<F: FieldKind, S: Part<F>>(
 ) -> anyhow::Result<()> {
     let Shape { bays, places, .. } = archive.shape();
     let (first, count) = run_of(run, places);
-    let room = bays * count.min(places);
+    let room = bays.saturating_mul(count.min(places));
     let mut list = vec![in rt.alloc(); LostCell { bay: 0, place: 0 }; room]?;
     let found = survey(&mut archive.array, first, count, &mut list).map_err(refused)?;
     println!(rt; "lost cells {found}")?;
     for cell in list.iter().take(found) {
         let LostCell { bay, place } = *cell;
-        let torn = if archive.is_torn(place) { ", the place is torn" } else { "" };
+        let torn = if archive.is_torn(place) {
+            ", the place is torn"
+        } else {
+            ""
+        };
         println!(rt; "place {place} bay {bay}{torn}")?;
     }
     Ok(())

@@ -38,7 +38,10 @@ pub(crate) fn create<F: FieldKind>(
     };
     let bays = plan.data_bays() + plan.check_bays();
     if paths.len() != bays {
-        bail!("{path}: the plan has {bays} bays, and {} are named", paths.len());
+        bail!(
+            "{path}: the plan has {bays} bays, and {} are named",
+            paths.len()
+        );
     }
     let mut filing = Filing::new(rt.alloc());
     match write_blank::<F>(rt, paths, description.places as usize, &mut filing) {
@@ -48,6 +51,9 @@ pub(crate) fn create<F: FieldKind>(
             return Err(e);
         }
     }
-    println!(rt; "{path}: created {bays} blank images of {} places", description.places)?;
+    println!(rt;
+        "{path}: created {bays} blank images of {} places",
+        description.places
+    )?;
     Ok(())
 }

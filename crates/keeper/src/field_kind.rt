@@ -129,8 +129,6 @@ pub(crate) fn plan_of<F: FieldKind>(
             Ok(plan) => Ok(AnyPlan::Groups(plan)),
             Err(refusal) => Err(refused_plan(refusal)),
         },
-        PlanName::Written(rows) => {
-            F::written(data_bays, check_bays, &table_of(heap, rows)?)
-        }
+        PlanName::Written(rows) => { F::written(data_bays, check_bays, &table_of(heap, rows)?) }
     }
 }

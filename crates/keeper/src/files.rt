@@ -1,8 +1,8 @@
 // The bytes of a file over the data bays of an archive.
 use crate::archive::Archive;
+use crate::cells::refused;
 use crate::field_kind::FieldKind;
 use crate::filing::{Filing, is_there};
-use crate::cells::refused;
 use crate::part::Part;
 use anyhow::{anyhow, bail};
 use packing::{file_words, length_words, pack, unpack};
@@ -60,7 +60,11 @@ fn read_place<F: FieldKind, S: Part<F>>(
         }
     }
     if lost > 0 {
-        let why = if archive.is_torn(place) { "torn" } else { "lost" };
+        let why = if archive.is_torn(place) {
+            "torn"
+        } else {
+            "lost"
+        };
         println!(rt; "place {place}: {lost} cells {why}")?;
     }
     Ok(lost)

@@ -55,7 +55,11 @@ pub(crate) fn open_disk<F: FieldKind>(
         Ok(words) => {
             let before = Some(words.clone()?);
             let trouble = None;
-            let image = Image { path, before, trouble };
+            let image = Image {
+                path,
+                before,
+                trouble,
+            };
             Ok((Disk::new(words, F::limit()), image))
         }
         Err(trouble) => stopped_disk::<F>(rt, path, places, trouble),

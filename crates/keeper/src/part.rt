@@ -3,12 +3,12 @@ use crate::field_kind::{FieldKind, plan_of};
 use crate::filing::Filing;
 use crate::image::{image_bytes, open_disk, stopped_disk};
 use crate::origin::{Inner, Origin, Trouble};
-use crate::saving::{restored, save_parts};
+use crate::saving::save_parts;
 use crate::text::text_of;
 use anyhow::{anyhow, bail};
 use array::Array;
 use description::{Below, Description};
-use disk::Disk;
+use disk::{Disk, words_to_save};
 use plan::AnyPlan;
 use rack::Rack;
 use shelf::{Clearable, Refusal};
@@ -32,9 +32,7 @@ impl NotServed {
             NotServed::Archives => {
                 anyhow!("the bays below are those of archives: service each by its own description")
             }
-            NotServed::Refused(refusal) => {
-                anyhow!("refused by {}: {refusal}", refusal.number())
-            }
+            NotServed::Refused(refusal) => { anyhow!("refused by {}: {refusal}", refusal.number()) }
         }
     }
 }
@@ -123,7 +121,7 @@ impl<F: FieldKind> Part<F> for Disk {
             let bytes = image_bytes::<F>(rt, &self.words)?;
             return filing.write(rt, &image.path, &bytes);
         };
-        let words = restored(rt.alloc(), before, &self.words, torn, self.limit)?;
+        let words = words_to_save(rt.alloc(), before, &self.words, torn, self.limit)?;
         if words == *before {
             return Ok(());
         }

@@ -4,35 +4,7 @@ use crate::field_kind::FieldKind;
 use crate::filing::Filing;
 use crate::origin::Inner;
 use crate::part::{Part, Row};
-use std::alloc::{AllocError, Global};
-
-// The places that are torn in one of two lists.
-fn either_torn(heap: Global, torn: &[bool], other: &[bool]) -> Result<Vec<bool>, AllocError> {
-    torn.iter()
-        .enumerate()
-        .map(|(place, torn)| *torn || other.get(place).copied().unwrap_or(false))
-        .collect(heap)
-}
-
-// The words of a disk as they are saved: those that it has now, but at a torn place where it has none now, the one that it had.
-pub(crate) fn restored(
-    heap: Global,
-    before: &[u32],
-    now: &[u32],
-    torn: &[bool],
-    limit: u32,
-) -> Result<Vec<u32>, AllocError> {
-    now.iter()
-        .enumerate()
-        .map(|(place, word)| {
-            if *word >= limit && torn.get(place).copied().unwrap_or(false) {
-                before.get(place).copied().unwrap_or(*word)
-            } else {
-                *word
-            }
-        })
-        .collect(heap)
-}
+use disk::all_torn;
 
 // Writes aside the parts of a row that changed.
 pub(crate) fn save_parts<F: FieldKind, S: Part<F>>(
@@ -42,7 +14,7 @@ pub(crate) fn save_parts<F: FieldKind, S: Part<F>>(
     torn: &[bool],
     filing: &mut Filing,
 ) -> anyhow::Result<()> {
-    let torn = either_torn(rt.alloc(), &inner.torn, torn)?;
+    let torn = all_torn(rt.alloc(), &inner.torn, torn, inner.torn.len())?;
     let (rack, _) = array.take_apart();
     for (part, origin) in rack.into_shelves().into_iter().zip(inner.origins.iter()) {
         part.save(rt, origin, &torn, filing)?;

@@ -3,8 +3,7 @@ use crate::archive::Archive;
 use crate::field_kind::FieldKind;
 use crate::origin::Origin;
 use crate::part::{NotServed, Part};
-use shelf::Shape;
-use shelf::Shelf;
+use shelf::{Shape, Shelf};
 
 // How many places are swept between two words of progress.
 const STEP: usize = 4096;
@@ -62,14 +61,18 @@ pub(crate) fn sweep_bay<F: FieldKind, S: Part<F>>(
     };
     for first in (0..places).step_by(STEP) {
         let count = STEP.min(places - first);
-        S::sweep(&mut archive.array, bay, first, &mut answers[..count])
-            .map_err(NotServed::error)?;
+        S::sweep(&mut archive.array, bay, first, &mut answers[..count]).map_err(NotServed::error)?;
         counts = count_answers(&answers[..count], counts);
         if places > STEP {
             eprintln!(rt; "bay {bay}: swept {} of {places} places", first + count)?;
         }
     }
-    let Tally { whole, mended, lost, stopped } = counts;
+    let Tally {
+        whole,
+        mended,
+        lost,
+        stopped,
+    } = counts;
     println!(rt; "bay {bay}: whole {whole}, mended {mended}, lost {lost}, stopped {stopped}")?;
     Ok(())
 }

@@ -74,7 +74,12 @@ fn cells_told<P: Plan>(plan: &P, count: &Count, lost: u32) -> u32 {
 }
 
 // What is said of a bay below: its image and whether it runs.
-fn print_bay(rt: &HostRuntime, bay: usize, filled: u32, origin: Option<&Origin>) -> anyhow::Result<()> {
+fn print_bay(
+    rt: &HostRuntime,
+    bay: usize,
+    filled: u32,
+    origin: Option<&Origin>,
+) -> anyhow::Result<()> {
     print!(rt; "bay {bay}: ")?;
     match origin {
         Some(Origin::Image(image)) => match image.trouble {
@@ -103,7 +108,10 @@ fn print_costs<F: FieldKind>(
     }
     let all = places.saturating_mul(plan.data_bays() as u32);
     let told = cells_told(plan, count, 0);
-    println!(rt; "cells: told {told}, lost {}; torn places {torn}", all.saturating_sub(told))?;
+    println!(rt;
+        "cells: told {told}, lost {}; torn places {torn}",
+        all.saturating_sub(told)
+    )?;
     for bay in 0..count.filled.len().min(31) {
         let left = cells_told(plan, count, 1 << bay);
         let cost = told.saturating_sub(left);
@@ -117,13 +125,26 @@ pub(crate) fn print_status<F: FieldKind, S: Part<F>>(
     rt: &HostRuntime,
     archive: Archive<F, S>,
 ) -> anyhow::Result<()> {
-    let Shape { bays: data_bays, places, .. } = archive.shape();
+    let Shape {
+        bays: data_bays,
+        places,
+        ..
+    } = archive.shape();
     let Archive { array, inner } = archive;
     let (mut below, plan) = array.take_apart();
     let bays = Shape::from(below.shape()).bays;
-    println!(rt; "{}: {} field, data bays {data_bays}, check bays {}, places {places}", inner.path, F::named(), bays - data_bays)?;
+    let check_bays = bays.saturating_sub(data_bays);
+    println!(rt;
+        "{}: {} field, data bays {data_bays}, check bays {check_bays}, places {places}",
+        inner.path,
+        F::named()
+    )?;
     let count = count_cells(rt.alloc(), &mut below, &inner.torn)?;
-    let width = if inner.origins.is_empty() { 1 } else { (bays / inner.origins.len()).max(1) };
+    let width = if inner.origins.is_empty() {
+        1
+    } else {
+        (bays / inner.origins.len()).max(1)
+    };
     for (bay, filled) in count.filled.iter().enumerate() {
         print_bay(rt, bay, *filled, inner.origins.get(bay / width))?;
     }

@@ -145,8 +145,15 @@ pub(crate) fn print_table<F: FieldKind, S: Part<F>>(
     for i in 0..count.min(places) {
         let cells = row_of(rt, &columns, i)?;
         totals.add(&cells);
-        let place = first.saturating_add(i) as u32;
-        println!(rt; "{}", Line { place, cells: &cells })?;
+        // A run that was fetched ends at 65,536 at most.
+        let place = u32::try_from(first.saturating_add(i)).unwrap_or(u32::MAX);
+        println!(rt;
+            "{}",
+            Line {
+                place,
+                cells: &cells
+            }
+        )?;
     }
     print_totals(rt, &totals, bays)
 }

@@ -138,12 +138,7 @@ fn in_field<F: FieldKind>(
 }
 
 // Carries out a task on the archive with its description at a path.
-pub fn carry_out(
-    rt: &HostRuntime,
-    archive: &[u8],
-    task: Task,
-    input: Input,
-) -> anyhow::Result<()> {
+pub fn carry_out(rt: &HostRuntime, archive: &[u8], task: Task, input: Input) -> anyhow::Result<()> {
     let path = text_of(rt.alloc(), archive)?;
     let description = described(rt, &path)?;
     finish_left(rt, &path)?;

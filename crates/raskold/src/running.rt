@@ -62,11 +62,7 @@ fn echo(rt: &HostRuntime, line: &[u8]) -> anyhow::Result<()> {
 }
 
 // Carries out the lines of a script in turn. One that fails is named with what is wrong, and changes nothing.
-fn run_script<R: BufRead + Drop>(
-    rt: &HostRuntime,
-    lines: R,
-    input: Input,
-) -> anyhow::Result<()> {
+fn run_script<R: BufRead + Drop>(rt: &HostRuntime, lines: R, input: Input) -> anyhow::Result<()> {
     let mut script = Script::new(rt.alloc(), lines);
     // No index: a reader may never end, and so its loop is bounded.
     for _ in 0..u64::MAX {

@@ -10,11 +10,7 @@ use shelf::{LostCell, Refusal, Shape, Shelf, fetch, survey};
 use std::alloc::Global;
 
 // Makes a call as a history of its own, and feeds the book with it.
-fn made<S: Stage>(
-    shelf: &mut S,
-    book: &mut Book,
-    call: Call,
-) -> Result<history::Answer, Fault> {
+fn made<S: Stage>(shelf: &mut S, book: &mut Book, call: Call) -> Result<history::Answer, Fault> {
     let calls = [call];
     let answer = shelf.make(&calls)?;
     book.enter(&calls[0], answer);

@@ -60,7 +60,11 @@ fn on_pile<R: BufRead, F: Field>(
     plan: Powers<F>,
     halves: Halves<F>,
 ) -> anyhow::Result<()> {
-    let Halves { inner, first, second } = halves;
+    let Halves {
+        inner,
+        first,
+        second,
+    } = halves;
     let first = Array::assemble(Drill::new(first), inner);
     let second = Array::assemble(Drill::new(second), inner);
     let shelf = Array::assemble(Pair::new(first, second), plan);
