@@ -2,13 +2,29 @@
 use crate::archive::Archive;
 use crate::field_kind::FieldKind;
 use crate::part::Part;
-use anyhow::{anyhow, bail};
+use account::{Change, Finding};
+use anyhow::anyhow;
 use orders::Run;
 use shelf::{LostCell, Refusal, Shape, Shelf, survey};
 
 // What is said of a call that is refused.
 pub(crate) fn refused(refusal: Refusal) -> anyhow::Error {
     anyhow!("refused by {}: {refusal}", refusal.number())
+}
+
+// What is said of a call on a cell that is refused.
+fn refused_cell<F: FieldKind, S: Part<F>>(
+    archive: &Archive<F, S>,
+    bay: usize,
+    place: usize,
+    refusal: Refusal,
+) -> anyhow::Error {
+    if refusal == Refusal::Lost && archive.is_torn(place) {
+        anyhow!("bay {bay} place {place}: the place is torn")
+    } else {
+        let number = refusal.number();
+        anyhow!("bay {bay} place {place}: refused by {number}: {refusal}")
+    }
 }
 
 // Reads a cell.
@@ -19,9 +35,8 @@ pub(crate) fn read<F: FieldKind, S: Part<F>>(
     place: usize,
 ) -> anyhow::Result<()> {
     match archive.array.read(bay, place) {
-        Ok(word) => println!(rt; "bay {bay} place {place}: {word}")?,
-        Err(Refusal::Lost) if archive.is_torn(place) => bail!("place {place} is torn"),
-        Err(refusal) => return Err(refused(refusal)),
+        Ok(word) => rt.println(Finding::Word { bay, place, word })?,
+        Err(refusal) => return Err(refused_cell(archive, bay, place, refusal)),
     }
     Ok(())
 }
@@ -35,11 +50,16 @@ pub(crate) fn write<F: FieldKind, S: Part<F>>(
     word: u32,
 ) -> anyhow::Result<()> {
     match archive.array.write(bay, place, word) {
-        Ok(()) => println!(rt; "bay {bay} place {place}: written {word}")?,
-        Err(Refusal::Lost) if archive.is_torn(place) => bail!("place {place} is torn"),
-        Err(refusal) => return Err(refused(refusal)),
+        Ok(()) => rt.println(Change::Written { bay, place, word })?,
+        Err(refusal) => return Err(refused_cell(archive, bay, place, refusal)),
     }
     Ok(())
+}
+
+// What is said of a call on a run of places that is refused.
+pub(crate) fn refused_run(first: usize, count: usize, refusal: Refusal) -> anyhow::Error {
+    let number = refusal.number();
+    anyhow!("{count} places from place {first} on: refused by {number}: {refusal}")
 }
 
 // The run that is meant: all places where none is said.
@@ -60,16 +80,18 @@ pub(crate) fn list_lost<F: FieldKind, S: Part<F>>(
     let (first, count) = run_of(run, places);
     let room = bays.saturating_mul(count.min(places));
     let mut list = vec![in rt.alloc(); LostCell { bay: 0, place: 0 }; room]?;
-    let found = survey(&mut archive.array, first, count, &mut list).map_err(refused)?;
-    println!(rt; "lost cells {found}")?;
+    let found = match survey(&mut archive.array, first, count, &mut list) {
+        Ok(found) => found,
+        Err(refusal) => return Err(refused_run(first, count, refusal)),
+    };
+    rt.println(Finding::Surveyed { lost: found })?;
     for cell in list.iter().take(found) {
         let LostCell { bay, place } = *cell;
-        let torn = if archive.is_torn(place) {
-            ", the place is torn"
+        if archive.is_torn(place) {
+            rt.println(Finding::TornCell { place, bay })?;
         } else {
-            ""
-        };
-        println!(rt; "place {place} bay {bay}{torn}")?;
+            rt.println(Finding::LostCell { place, bay })?;
+        }
     }
     Ok(())
 }

@@ -3,6 +3,7 @@ use crate::field_kind::{FieldKind, plan_of};
 use crate::filing::{Filing, is_there};
 use crate::image::image_bytes;
 use crate::text::text_of;
+use account::Change;
 use anyhow::{Context, bail};
 use description::{Below, Description};
 use plan::Plan;
@@ -51,9 +52,7 @@ pub(crate) fn create<F: FieldKind>(
             return Err(e);
         }
     }
-    println!(rt;
-        "{path}: created {bays} blank images of {} places",
-        description.places
-    )?;
+    let places = description.places;
+    println!(rt; "{path}: {}", Change::Created { bays, places })?;
     Ok(())
 }

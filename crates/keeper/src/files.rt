@@ -4,6 +4,7 @@ use crate::cells::refused;
 use crate::field_kind::FieldKind;
 use crate::filing::{Filing, is_there};
 use crate::part::Part;
+use account::{Change, Finding};
 use anyhow::{anyhow, bail};
 use packing::{file_words, length_words, pack, unpack};
 use shelf::{Refusal, Shape, Shelf};
@@ -36,7 +37,11 @@ pub(crate) fn put<F: FieldKind, S: Part<F>>(
         }
         archive.array.lay(place, &row).map_err(refused)?;
     }
-    println!(rt; "{name}: put {} bytes over {needed} places", bytes.len())?;
+    let put = Change::Put {
+        bytes: bytes.len(),
+        places: needed,
+    };
+    println!(rt; "{name}: {put}")?;
     Ok(())
 }
 
@@ -60,12 +65,11 @@ fn read_place<F: FieldKind, S: Part<F>>(
         }
     }
     if lost > 0 {
-        let why = if archive.is_torn(place) {
-            "torn"
+        if archive.is_torn(place) {
+            rt.println(Finding::TornAt { place, cells: lost })?;
         } else {
-            "lost"
-        };
-        println!(rt; "place {place}: {lost} cells {why}")?;
+            rt.println(Finding::LostAt { place, cells: lost })?;
+        }
     }
     Ok(lost)
 }
@@ -117,6 +121,6 @@ pub(crate) fn get<F: FieldKind, S: Part<F>>(
     let mut filing = Filing::new(rt.alloc());
     filing.write(rt, name, &bytes)?;
     filing.finish(rt, name)?;
-    println!(rt; "{name}: got {} bytes", bytes.len())?;
+    println!(rt; "{name}: {}", Finding::Got { bytes: bytes.len() })?;
     Ok(())
 }

@@ -26,13 +26,16 @@ pub(crate) enum NotServed {
 }
 
 impl NotServed {
-    // What is said of it.
-    pub(crate) fn error(self) -> anyhow::Error {
+    // What is said of it, of a bay below.
+    pub(crate) fn error(self, bay: usize) -> anyhow::Error {
         match self {
             NotServed::Archives => {
                 anyhow!("the bays below are those of archives: service each by its own description")
             }
-            NotServed::Refused(refusal) => { anyhow!("refused by {}: {refusal}", refusal.number()) }
+            NotServed::Refused(refusal) => {
+                let number = refusal.number();
+                anyhow!("bay {bay}: refused by {number}: {refusal}")
+            }
         }
     }
 }

@@ -2,7 +2,8 @@
 use crate::archive::Archive;
 use crate::field_kind::FieldKind;
 use crate::origin::Origin;
-use crate::part::{NotServed, Part};
+use crate::part::Part;
+use account::Change;
 use shelf::{Shape, Shelf};
 
 // How many places are swept between two words of progress.
@@ -23,12 +24,12 @@ pub(crate) fn exchange<F: FieldKind, S: Part<F>>(
     archive: &mut Archive<F, S>,
     bay: usize,
 ) -> anyhow::Result<()> {
-    S::exchange(&mut archive.array, bay).map_err(NotServed::error)?;
+    S::exchange(&mut archive.array, bay).map_err(|e| e.error(bay))?;
     if let Some(Origin::Image(image)) = archive.inner.origins.get_mut(bay) {
         image.before = None;
         image.trouble = None;
     }
-    println!(rt; "bay {bay}: exchanged")?;
+    rt.println(Change::Exchanged { bay })?;
     Ok(())
 }
 
@@ -61,7 +62,7 @@ pub(crate) fn sweep_bay<F: FieldKind, S: Part<F>>(
     };
     for first in (0..places).step_by(STEP) {
         let count = STEP.min(places - first);
-        S::sweep(&mut archive.array, bay, first, &mut answers[..count]).map_err(NotServed::error)?;
+        S::sweep(&mut archive.array, bay, first, &mut answers[..count]).map_err(|e| e.error(bay))?;
         counts = count_answers(&answers[..count], counts);
         if places > STEP {
             eprintln!(rt; "bay {bay}: swept {} of {places} places", first + count)?;
@@ -73,7 +74,13 @@ pub(crate) fn sweep_bay<F: FieldKind, S: Part<F>>(
         lost,
         stopped,
     } = counts;
-    println!(rt; "bay {bay}: whole {whole}, mended {mended}, lost {lost}, stopped {stopped}")?;
+    rt.println(Change::Swept {
+        bay,
+        whole,
+        mended,
+        lost,
+        stopped,
+    })?;
     Ok(())
 }
 

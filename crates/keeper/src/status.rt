@@ -3,6 +3,7 @@ use crate::archive::Archive;
 use crate::field_kind::FieldKind;
 use crate::origin::Origin;
 use crate::part::Part;
+use account::Standing;
 use linear::told_bays;
 use plan::{AnyPlan, Plan};
 use rack::Rack;
@@ -73,24 +74,28 @@ fn cells_told<P: Plan>(plan: &P, count: &Count, lost: u32) -> u32 {
     cells
 }
 
-// What is said of a bay below: its image and whether it runs.
+// What is said of a bay below: whether it runs, and where its words come from.
 fn print_bay(
     rt: &HostRuntime,
     bay: usize,
     filled: u32,
     origin: Option<&Origin>,
 ) -> anyhow::Result<()> {
-    print!(rt; "bay {bay}: ")?;
+    let running = Standing::Running { bay, filled };
+    let standing = Standing::Filled { bay, filled };
     match origin {
         Some(Origin::Image(image)) => match image.trouble {
-            Some(trouble) => println!(rt; "stopped, {trouble}: {}", image.path)?,
-            None => println!(rt; "running, filled {filled}: {}", image.path)?,
+            Some(trouble) => println!(rt; "bay {bay}: stopped, {trouble}: {}", image.path)?,
+            None => println!(rt; "{running}: {}", image.path)?,
         },
         Some(Origin::Archive(inner)) if inner.absent => {
-            println!(rt; "stopped, the archive can't be opened: {}", inner.path)?
+            println!(rt;
+                "bay {bay}: stopped, the archive can't be opened: {}",
+                inner.path
+            )?
         }
-        Some(Origin::Archive(inner)) => println!(rt; "filled {filled}: {}", inner.path)?,
-        None => println!(rt; "filled {filled}")?,
+        Some(Origin::Archive(inner)) => println!(rt; "{standing}: {}", inner.path)?,
+        None => rt.println(standing)?,
     }
     Ok(())
 }
@@ -108,14 +113,12 @@ fn print_costs<F: FieldKind>(
     }
     let all = places.saturating_mul(plan.data_bays() as u32);
     let told = cells_told(plan, count, 0);
-    println!(rt;
-        "cells: told {told}, lost {}; torn places {torn}",
-        all.saturating_sub(told)
-    )?;
+    let lost = all.saturating_sub(told);
+    rt.println(Standing::Cells { told, lost, torn })?;
     for bay in 0..count.filled.len().min(31) {
         let left = cells_told(plan, count, 1 << bay);
         let cost = told.saturating_sub(left);
-        println!(rt; "the loss of bay {bay} would cost {cost} cells")?;
+        rt.println(Standing::Cost { bay, cells: cost })?;
     }
     Ok(())
 }
@@ -160,10 +163,11 @@ pub(crate) fn print_verdicts<F: FieldKind, S: Part<F>>(
     let mut torn: u32 = 0;
     for (place, is_torn) in archive.inner.torn.iter().enumerate() {
         if *is_torn {
-            println!(rt; "place {place}: torn, its words disagree")?;
+            rt.println(Standing::Torn { place })?;
             torn = torn.saturating_add(1);
         }
     }
-    println!(rt; "verified places {}, torn {torn}", archive.inner.torn.len())?;
+    let places = archive.inner.torn.len();
+    rt.println(Standing::Verified { places, torn })?;
     Ok(())
 }

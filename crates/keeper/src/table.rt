@@ -1,8 +1,9 @@
 // The table of an archive: laid from a text, and printed.
 use crate::archive::Archive;
-use crate::cells::{refused, run_of};
+use crate::cells::{refused_run, run_of};
 use crate::field_kind::FieldKind;
 use crate::part::Part;
+use account::Change;
 use anyhow::{anyhow, bail};
 use orders::Run;
 use shelf::{Refusal, Shape, Shelf, fetch};
@@ -56,7 +57,7 @@ pub(crate) fn lay<F: FieldKind, S: Part<F>>(
         }
     }
     let Laid { places, short } = laid;
-    println!(rt; "laid places {places}, with cells that can't be read back {short}")?;
+    rt.println(Change::Laid { places, short })?;
     Ok(())
 }
 
@@ -71,7 +72,9 @@ fn column<F: FieldKind, S: Part<F>>(
     let room = count.min(archive.shape().places.saturating_add(1));
     let mut words = vec![in rt.alloc(); 0u32; room]?;
     let mut marks = vec![in rt.alloc(); 0u8; room]?;
-    fetch(&mut archive.array, bay, first, &mut words, &mut marks).map_err(refused)?;
+    if let Err(refusal) = fetch(&mut archive.array, bay, first, &mut words, &mut marks) {
+        return Err(refused_run(first, count, refusal));
+    }
     let cells = words
         .iter()
         .zip(marks.iter())

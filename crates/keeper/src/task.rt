@@ -11,6 +11,7 @@ use crate::service::{exchange, sweep};
 use crate::status::{print_status, print_verdicts};
 use crate::table::{lay, print_table};
 use crate::text::text_of;
+use account::Change;
 use anyhow::{Context, anyhow, bail};
 use command::FieldName;
 use description::{Below, Description};
@@ -75,7 +76,7 @@ fn change<F: FieldKind, S: Part<F>>(
         _ => {}
     }
     let written = save(rt, archive)?;
-    println!(rt; "images written {written}")?;
+    rt.println(Change::Images { written })?;
     Ok(())
 }
 
