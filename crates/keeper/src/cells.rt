@@ -43,17 +43,15 @@ pub(crate) fn read<F: FieldKind, S: Part<F>>(
 
 // Writes a cell.
 pub(crate) fn write<F: FieldKind, S: Part<F>>(
-    rt: &HostRuntime,
     archive: &mut Archive<F, S>,
     bay: usize,
     place: usize,
     word: u32,
-) -> anyhow::Result<()> {
+) -> anyhow::Result<Change> {
     match archive.array.write(bay, place, word) {
-        Ok(()) => rt.println(Change::Written { bay, place, word })?,
-        Err(refusal) => return Err(refused_cell(archive, bay, place, refusal)),
+        Ok(()) => Ok(Change::Written { bay, place, word }),
+        Err(refusal) => Err(refused_cell(archive, bay, place, refusal)),
     }
-    Ok(())
 }
 
 // What is said of a call on a run of places that is refused.

@@ -20,7 +20,7 @@ pub(crate) fn put<F: FieldKind, S: Part<F>>(
     archive: &mut Archive<F, S>,
     name: &str,
     bytes: &[u8],
-) -> anyhow::Result<()> {
+) -> anyhow::Result<Change> {
     let Shape { bays, places, .. } = archive.shape();
     let words = match pack(rt.alloc(), F::packing(), bytes) {
         Ok(words) => words,
@@ -37,12 +37,10 @@ pub(crate) fn put<F: FieldKind, S: Part<F>>(
         }
         archive.array.lay(place, &row).map_err(refused)?;
     }
-    let put = Change::Put {
+    Ok(Change::Put {
         bytes: bytes.len(),
         places: needed,
-    };
-    println!(rt; "{name}: {put}")?;
-    Ok(())
+    })
 }
 
 // Adds the words of a place, or names its lost cells. Answers how many are lost.

@@ -20,17 +20,15 @@ struct Tally {
 
 // Puts a fresh device in a bay below. Its image is written anew, whatever was there.
 pub(crate) fn exchange<F: FieldKind, S: Part<F>>(
-    rt: &HostRuntime,
     archive: &mut Archive<F, S>,
     bay: usize,
-) -> anyhow::Result<()> {
+) -> anyhow::Result<Change> {
     S::exchange(&mut archive.array, bay).map_err(|e| e.error(bay))?;
     if let Some(Origin::Image(image)) = archive.inner.origins.get_mut(bay) {
         image.before = None;
         image.trouble = None;
     }
-    rt.println(Change::Exchanged { bay })?;
-    Ok(())
+    Ok(Change::Exchanged { bay })
 }
 
 // Counts the answers of mends by their numbers.
@@ -47,11 +45,11 @@ fn count_answers(answers: &[u8], mut counts: Tally) -> Tally {
 }
 
 // Sweeps a bay below over all places, and says on standard error how far it is.
-pub(crate) fn sweep_bay<F: FieldKind, S: Part<F>>(
+fn sweep_bay<F: FieldKind, S: Part<F>>(
     rt: &HostRuntime,
     archive: &mut Archive<F, S>,
     bay: usize,
-) -> anyhow::Result<()> {
+) -> anyhow::Result<Change> {
     let Shape { places, .. } = archive.shape();
     let mut answers = vec![in rt.alloc(); 0u8; STEP]?;
     let mut counts = Tally {
@@ -74,30 +72,30 @@ pub(crate) fn sweep_bay<F: FieldKind, S: Part<F>>(
         lost,
         stopped,
     } = counts;
-    rt.println(Change::Swept {
+    Ok(Change::Swept {
         bay,
         whole,
         mended,
         lost,
         stopped,
-    })?;
-    Ok(())
+    })
 }
 
-// Sweeps one bay below, or all.
+// Sweeps one bay below, or all, and lists what was done.
 pub(crate) fn sweep<F: FieldKind, S: Part<F>>(
     rt: &HostRuntime,
     archive: &mut Archive<F, S>,
     bay: Option<u32>,
+    changes: &mut Vec<Change>,
 ) -> anyhow::Result<()> {
     match bay {
-        Some(bay) => sweep_bay(rt, archive, bay as usize),
+        Some(bay) => changes.push(sweep_bay(rt, archive, bay as usize)?)?,
         None => {
             let bays = Shape::from(archive.array.below().shape()).bays;
             for bay in 0..bays {
-                sweep_bay(rt, archive, bay)?;
+                changes.push(sweep_bay(rt, archive, bay)?)?;
             }
-            Ok(())
         }
     }
+    Ok(())
 }

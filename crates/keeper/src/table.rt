@@ -37,7 +37,7 @@ pub(crate) fn lay<F: FieldKind, S: Part<F>>(
     archive: &mut Archive<F, S>,
     name: &str,
     text: &[u8],
-) -> anyhow::Result<()> {
+) -> anyhow::Result<Change> {
     let mut laid = Laid {
         places: 0,
         short: 0,
@@ -57,8 +57,7 @@ pub(crate) fn lay<F: FieldKind, S: Part<F>>(
         }
     }
     let Laid { places, short } = laid;
-    rt.println(Change::Laid { places, short })?;
-    Ok(())
+    Ok(Change::Laid { places, short })
 }
 
 // The cells of one bay over a run of places.

@@ -51,31 +51,47 @@ fn table_text(
     }
 }
 
-// Carries out a task that changes the archive, and saves it.
+// Carries out a task that changes the archive in memory, and lists what was done.
 fn change<F: FieldKind, S: Part<F>>(
+    rt: &HostRuntime,
+    archive: &mut Archive<F, S>,
+    task: Task,
+    input: Input,
+    changes: &mut Vec<Change>,
+) -> anyhow::Result<()> {
+    match task {
+        Task::Lay(path) => {
+            let (name, text) = table_text(rt, path, input)?;
+            changes.push(lay(rt, archive, &name, &text)?)?;
+        }
+        Task::Write { bay, place, word } => {
+            changes.push(write(archive, bay as usize, place as usize, word)?)?;
+        }
+        Task::Exchange { bay } => changes.push(exchange(archive, bay as usize)?)?,
+        Task::Sweep(bay) => sweep(rt, archive, bay, changes)?,
+        Task::Put(path) => {
+            let name = text_of(rt.alloc(), path)?;
+            let bytes = fs::read(rt, &name).context(format_args!("{name} can't be read"))?;
+            changes.push(put(rt, archive, &name, &bytes)?)?;
+        }
+        _ => {}
+    }
+    Ok(())
+}
+
+// Carries out a task that changes the archive, saves it, and only then says what was done.
+fn change_and_save<F: FieldKind, S: Part<F>>(
     rt: &HostRuntime,
     mut archive: Archive<F, S>,
     task: Task,
     input: Input,
 ) -> anyhow::Result<()> {
-    match task {
-        Task::Lay(path) => {
-            let (name, text) = table_text(rt, path, input)?;
-            lay(rt, &mut archive, &name, &text)?;
-        }
-        Task::Write { bay, place, word } => {
-            write(rt, &mut archive, bay as usize, place as usize, word)?;
-        }
-        Task::Exchange { bay } => exchange(rt, &mut archive, bay as usize)?,
-        Task::Sweep(bay) => sweep(rt, &mut archive, bay)?,
-        Task::Put(path) => {
-            let name = text_of(rt.alloc(), path)?;
-            let bytes = fs::read(rt, &name).context(format_args!("{name} can't be read"))?;
-            put(rt, &mut archive, &name, &bytes)?;
-        }
-        _ => {}
-    }
+    let mut changes = Vec::new(rt.alloc());
+    change(rt, &mut archive, task, input, &mut changes)?;
     let written = save(rt, archive)?;
+    for change in changes {
+        rt.println(change)?;
+    }
     rt.println(Change::Images { written })?;
     Ok(())
 }
@@ -96,7 +112,7 @@ fn on_parts<F: FieldKind, S: Part<F>>(
         Task::Status => print_status(rt, archive),
         Task::Verify => print_verdicts(rt, &archive),
         Task::Get(path) => get(rt, &mut archive, &text_of(rt.alloc(), path)?),
-        task => change(rt, archive, task, input),
+        task => change_and_save(rt, archive, task, input),
     }
 }
 
