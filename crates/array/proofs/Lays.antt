@@ -20,7 +20,7 @@ use Rattle.shelf.proofs.Gathering.{bit_low}
 use Rattle.linear.specs.Sets.{TellsJust}
 use Rattle.array.specs.declared.coded.Array.{Array}
 use Rattle.array.specs.Tables.{array_table, ArrayOrder, ArrayOutcome, Beneath}
-use Rattle.array.specs.Decoding.{Gives, Agrees, decoded, InOrder}
+use Rattle.array.specs.Decoding.{Gives, Agrees, AllowsOne, decoded, InOrder}
 use Rattle.array.specs.Changes.{row_words, LayBelow}
 use Rattle.array.proofs.Adding.{gives_plus, zero_between}
 use Rattle.array.proofs.Cells.{cases_cell, not_both, holds_all, blank_more}
@@ -29,26 +29,31 @@ use Rattle.array.proofs.Promising.{array_after, promised, beneath}
 use Rattle.array.proofs.Shapes.{Fits, fits_place, array_shape, array_limit}
 use Rattle.array.proofs.Decays.{cells_still, order_still, array_decayed}
 
+-- Where the filled cells of a place tell the row of a bay, they allow one word for it: the difference of two vectors that agree gives zero
+-- on the filled rows.
+module _ (k : Arithmetic) (l : Lawful k) (x : Coefficients) (fit : Fitting k x) (t : Table) (p r : ℕ) (v : List ℕ) (hv : Agrees k x t p v) (set : ℕ → Bool) (filled : (b : ℕ) → b < x.n + x.m → set b ≡ true → t.cell b p ≢ blank) where
+  same : (b : ℕ) (u w : List ℕ) (c : Cell) → c ≢ blank → Gives k x b u c → Gives k x b w c → dot k (row x b) u ≡ dot k (row x b) w
+  same b u w blank some gu gw = absurd (some refl)
+  same b u w (holds n) some gu gw = sym gu ∙ gw
+
+  pub told_one : Tells k x set r → AllowsOne k x t r p (dot k (row x r) v)
+  told_one tells = ((v, hv, refl), λ w (u, hu, is). sym is ∙ dot-equal k l x.n u v hu.vector hv.vector (row x r) (row-codes k l x fit r) (zero_difference u hu))
+    where
+      zero_difference : (u : List ℕ) → Agrees k x t p u → dot k (row x r) (less k l x.n u v) ≡ 0
+      zero_difference u hu =
+          tells (less k l x.n u v) (less_vector k l x.n u v hu.vector hv.vector)
+          (λ b few on. dot-same k l x.n u v hu.vector hv.vector (row x b) (row-codes k l x fit b) (same b u v (t.cell b p) (filled b few on) (hu.gives b few) (hv.gives b few)))
+
 module _ (k : Arithmetic) (l : Lawful k) (x : Coefficients) (fit : Fitting k x) (t : Table) (p j : ℕ) (d : j < x.n) (v : List ℕ) (hv : Agrees k x t p v) where
-  -- Where the filled cells of a place tell the row of a data bay, the cell of the bay is filled: the difference of two vectors that
-  -- agree gives zero on the filled rows.
+  -- Where the filled cells of a place tell the row of a data bay, the cell of the bay is filled.
   told_filled : (set : ℕ → Bool) → ((b : ℕ) → b < x.n + x.m → set b ≡ true → t.cell b p ≢ blank) → Tells k x set j → (decoded k x t).cell j p ≢ blank
   told_filled set filled tells empty =
-      let (a, b, (u, hu, is), (w, hw, are), differ) = blank_more k l x t p j d v hv empty in
-      differ (sym is ∙ dot-equal k l x.n u w hu.vector hw.vector (row x j) (row-codes k l x fit j)
-      (tells (less k l x.n u w) (less_vector k l x.n u w hu.vector hw.vector) (λ b few on.
-      dot-same k l x.n u w hu.vector hw.vector (row x b) (row-codes k l x fit b) (both b few on u w hu hw)))
-      ∙ are)
-    where
-      same : (b : ℕ) (u w : List ℕ) (c : Cell) → c ≢ blank → Gives k x b u c → Gives k x b w c → dot k (row x b) u ≡ dot k (row x b) w
-      same b u w blank some gu gw = absurd (some refl)
-      same b u w (holds n) some gu gw = sym gu ∙ gw
-
-      both : (b : ℕ) → b < x.n + x.m → set b ≡ true → (u w : List ℕ) → Agrees k x t p u → Agrees k x t p w → dot k (row x b) u ≡ dot k (row x b) w
-      both b few on u w hu hw = same b u w (t.cell b p) (filled b few on) (hu.gives b few) (hw.gives b few)
+      let (a, b, some, other, differ) = blank_more k l x t p j d v hv empty in
+      let one = told_one k l x fit t p j v hv set filled tells in
+      differ (one.1 a some ∙ sym (one.1 b other))
 
   -- Where the cell is filled, any set with the filled cells tells the row: a vector that gives zero on them can be added.
-  filled_told : (set : ℕ → Bool) → ((b : ℕ) → b < x.n + x.m → set b ≡ false → t.cell b p ≡ blank) → (w : ℕ) → (decoded k x t).cell j p ≡ holds w → Tells k x set j
+  pub filled_told : (set : ℕ → Bool) → ((b : ℕ) → b < x.n + x.m → set b ≡ false → t.cell b p ≡ blank) → (w : ℕ) → (decoded k x t).cell j p ≡ holds w → Tells k x set j
   filled_told set clear w e z hz zeros =
       let sum_agrees : Agrees k x t p (plus k l x.n v z) = record {
         vector = plus_vector k l x.n v z hv.vector hz;

@@ -1,2 +1,1 @@
 pub mod Remainder
-pub mod Worked

@@ -4,7 +4,6 @@ pub mod Polynomials
 pub mod Powers
 pub mod Modular
 pub mod Fields
-pub mod Examples
 pub mod LawfulFields
 pub mod Products
 pub mod Linear

@@ -2,12 +2,12 @@
 #![tactic(auto)]
 
 mod arithmetic;
-mod examples;
 mod modular;
 mod polynomials;
+mod products;
 mod tables;
 
 pub use crate::arithmetic::Field;
-pub use crate::examples::{products_are_remainders, worked_examples};
 pub use crate::modular::Count;
 pub use crate::polynomials::{Byte, Nibble};
+pub use crate::products::products_are_remainders;

@@ -17,7 +17,7 @@ elements v n e = fill_by_all (λ j. get_or v j 0) v n 0 e (λ j l. refl)
 
 module _ (k : Arithmetic) (l : Lawful k) where
   -- a row and a vector may change places
-  dot-comm : (r v : List ℕ) → Codes k r → Codes k v → dot k r v ≡ dot k v r
+  pub dot-comm : (r v : List ℕ) → Codes k r → Codes k v → dot k r v ≡ dot k v r
   unfolding dot
   dot-comm [] [] hr hv = refl
   dot-comm [] (v ∷ vs) hr hv = refl

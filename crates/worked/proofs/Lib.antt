@@ -1,0 +1,5 @@
+pub mod Mixing
+pub mod Telling
+pub mod Bits
+pub mod Passing
+pub mod Possible

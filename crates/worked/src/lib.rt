@@ -1,0 +1,11 @@
+// Worked examples of the fields and of arrays over them, in one table, which holds of the definitions that the contracts cite.
+#![tactic(auto)]
+
+ghost use Rattle.worked.specs.Examples.{examples, AllHold, AllPossible};
+
+// The worked examples hold of the arithmetics, of the plans of powers and of what an array means, and there
+// are such places.
+pub fn worked_examples()
+    ensures hold { AllHold examples }
+    ensures possible { AllPossible }
+{}
