@@ -3,3 +3,4 @@ pub mod Telling
 pub mod Bits
 pub mod Passing
 pub mod Possible
+pub mod Blanks

@@ -1,11 +1,8 @@
 // Worked examples of the fields and of arrays over them, in one table, which holds of the definitions that the contracts cite.
 #![tactic(auto)]
 
-ghost use Rattle.worked.specs.Examples.{examples, AllHold, AllPossible};
+mod blank;
+mod examples;
 
-// The worked examples hold of the arithmetics, of the plans of powers and of what an array means, and there
-// are such places.
-pub fn worked_examples()
-    ensures hold { AllHold examples }
-    ensures possible { AllPossible }
-{}
+pub use crate::blank::{Three, new_array};
+pub use crate::examples::worked_examples;

@@ -5,7 +5,7 @@ use Rattle.plan.specs.Rows.{entry, row, dot}
 use Rattle.worked.specs.Examples.{examples, arithmetic_of}
 use Rattle.worked.proofs.Possible.{possible}
 use Rattle.worked.proofs.Passing.{passes, all_right}
-use Rattle.worked.proofs.worked_examples.Goals as goal
+use Rattle.worked.proofs.examples.worked_examples.Goals as goal
 
 pub returns : goal.returns
 unfolding mul_mod carryless remainder power entry row dot passes
