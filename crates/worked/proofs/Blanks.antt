@@ -1,11 +1,11 @@
 -- Shelves side by side are blank where each of them is.
-use Rattle.std.proofs.Common.{◌≡◌, ℕ, ◌+◌, ◌-◌, ◌<◌, ◌≤◌, true, sym, inl, inr, ◌∙◌, ap, subst, arith}
+use Rattle.std.proofs.Common.{◌≡◌, ◌+◌, ◌-◌, sym, inl, inr, ◌∙◌, ap, subst, arith}
 use Rattle.std.proofs.lemmas.Bool.{cases_lt}
 use Rattle.shelf.specs.Table.{Table, AllBlank}
 use Rattle.trays.specs.declared.tray.Tray.{Tray}
 use Rattle.trays.specs.Words.{tray_table}
 use Rattle.layers.specs.declared.pair.Pair.{Pair}
-use Rattle.layers.specs.Pairs.{fits, paired, pair_table}
+use Rattle.layers.specs.Pairs.{paired, pair_table}
 use Rattle.layers.proofs.Beside.{fit_table, fit_by_bay, fits_places, cell_first, cell_second}
 
 -- each bay of a pair is one of a shelf of it

@@ -1,9 +1,9 @@
 -- A combination of the rows of some bays.
-use Rattle.std.proofs.Common.{◌≡◌, ℕ, suc, ◌+◌, ◌<◌, Bool, true, List, [], ◌∷◌, map, sym, refl, ap, ◌∙◌, subst}
+use Rattle.std.proofs.Common.{◌≡◌, ℕ, suc, ◌+◌, ◌<◌, Bool, true, List, [], ◌∷◌, map, sym, refl, ap, ◌∙◌}
 use Rattle.std.specs.List.{All, range_with_len}
 use Rattle.field.specs.Arithmetic.{Arithmetic, Lawful}
 use Rattle.plan.specs.Coefficients.{Coefficients, Fitting}
-use Rattle.plan.specs.Rows.{entry, row, dot, Vector, Tells}
+use Rattle.plan.specs.Rows.{entry, row, dot, Tells}
 use Rattle.plan.proofs.Dots.{Codes, vector_codes, dot_below}
 use Rattle.plan.proofs.Rows.{entry_code, row-codes}
 use Rattle.plan.proofs.Sums.{map_codes, dot-less, dot-none}

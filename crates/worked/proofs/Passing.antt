@@ -19,12 +19,12 @@ use Rattle.plan.specs.Rows.{row, dot, Tells}
 use Rattle.shelf.specs.Table.{holds}
 use Rattle.shelf.specs.Calls.{bit, Set}
 use Rattle.array.specs.Decoding.{AllowsOne}
-use Rattle.array.specs.Changes.{row_words, LaidBelow}
+use Rattle.array.specs.Changes.{row_words}
 use Rattle.array.specs.Moving.{rewritten, Becomes}
 use Rattle.array.proofs.Decay.{tells_more}
 use Rattle.array.proofs.Tests.{all_at}
 use Rattle.worked.specs.Places.{among}
-use Rattle.worked.specs.Examples.{Name, nibble, byte, count, arithmetic_of, Example, product, quotient, inverse, lays, writes, reads, mends, tells, loses, answers, Lays, Writes, Reads, Mends, TellsAll, LosesAll, Answers, Holds, AllHold}
+use Rattle.worked.specs.Examples.{Name, nibble, byte, count, arithmetic_of, Example, product, quotient, inverse, lays, writes, reads, mends, tells, loses, answers, Writes, Mends, TellsAll, LosesAll, Answers, Holds, AllHold}
 use Rattle.worked.proofs.Telling.{tells_test, loses_test, told, untold, allows, read, lost}
 use Rattle.worked.proofs.Bits.{same_bits}
 

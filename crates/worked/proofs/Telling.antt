@@ -1,18 +1,18 @@
 -- What the cells left of a place tell of a word, from the tests that antt computes.
-use Rattle.std.proofs.Common.{◌≡◌, ℕ, ◌+◌, ◌<◌, ◌≢◌, Bool, true, false, not, ◌&&◌, ◌||◌, eqb, ltb, List, length, get_or, sym, refl, ap, ◌∙◌, subst, inl, inr, arith}
+use Rattle.std.proofs.Common.{◌≡◌, ℕ, ◌+◌, ◌<◌, ◌≢◌, Bool, true, false, not, ◌&&◌, ◌||◌, eqb, ltb, List, length, get_or, refl, ap, ◌∙◌, subst, inl, inr, arith}
 use Rattle.std.specs.Prelude.{MatchBool}
-use Rattle.std.specs.List.{All, list_all, range_with_len}
+use Rattle.std.specs.List.{list_all, range_with_len}
 use Rattle.std.specs.Str.{bytes_eq}
 use Rattle.std.proofs.lemmas.Slice.Eq.{bytes_eq-Decides}
-use Rattle.std.proofs.lemmas.Bool.{cases_Bool, and_parts, not-true, ltb-true, eqb-true, eqb-false}
+use Rattle.std.proofs.lemmas.Bool.{and_parts, not-true, ltb-true, eqb-true, eqb-false}
 use Rattle.std.proofs.lemmas.List.Sums.{AllPass-from_list_all}
 use Rattle.field.specs.Arithmetic.{Arithmetic, Lawful}
 use Rattle.plan.specs.Coefficients.{Coefficients, Fitting}
 use Rattle.plan.specs.Rows.{row, dot, Vector, Tells}
 use Rattle.plan.proofs.Dots.{Codes, vector_codes}
 use Rattle.plan.proofs.DataRows.{dot-data}
-use Rattle.shelf.specs.Table.{Table, Cell, blank, holds}
-use Rattle.array.specs.Decoding.{Agrees, AllowsOne, decoded}
+use Rattle.shelf.specs.Table.{Table, blank, holds}
+use Rattle.array.specs.Decoding.{AllowsOne, decoded}
 use Rattle.array.proofs.Cells.{cases_cell, one_holds}
 use Rattle.array.proofs.Lays.{told_one, filled_told}
 use Rattle.array.proofs.Tests.{all_at, implied}

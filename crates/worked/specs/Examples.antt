@@ -4,7 +4,7 @@ use Rattle.field.specs.Arithmetic.{Arithmetic}
 use Rattle.field.specs.Fields as fields
 use Rattle.plan.specs.Coefficients.{Coefficients}
 use Rattle.plan.specs.Powers.{powers}
-use Rattle.plan.specs.Rows.{row, dot, Vector}
+use Rattle.plan.specs.Rows.{Vector}
 use Rattle.shelf.specs.Table.{Table, blank, holds}
 use Rattle.shelf.specs.Calls.{bit, Set}
 use Rattle.array.specs.Decoding.{decoded, AllowsOne}

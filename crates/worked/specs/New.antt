@@ -1,5 +1,4 @@
 -- A new array is in order, and every cell of it is blank.
-use Rattle.std.specs.Prelude.{ℕ}
 use Rattle.field.specs.Arithmetic.{Arithmetic}
 use Rattle.plan.specs.Coefficients.{Coefficients}
 use Rattle.shelf.specs.Table.{Table, AllBlank}

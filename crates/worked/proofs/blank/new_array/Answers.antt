@@ -1,4 +1,4 @@
-use Rattle.std.proofs.Common.{◌≡◌, ℕ, ◌≤◌, ap, ◌∙◌, arith}
+use Rattle.std.proofs.Common.{◌≤◌, ap, ◌∙◌, arith}
 use Rattle.shelf.specs.Bounds.{most_limit}
 use Rattle.shelf.specs.Table.{AllBlank}
 use Rattle.trays.specs.Words.{tray_table}
