@@ -12,7 +12,7 @@ use Rattle.field.specs.Laws.{zero_below, one_below, code, add-zero, mul-one}
 use Rattle.plan.specs.Bounds.{most_data}
 use Rattle.plan.specs.Rows.{dot, Vector}
 use Rattle.plan.proofs.Dots.{Codes, vector_codes}
-use Rattle.linear.specs.Equations.{entry, has_row, gives, Satisfies, Satisfiable, Told, Open, cleared}
+use Rattle.linear.specs.Equations.{entry, has_row, gives, Satisfies, Satisfiable, Covered, Told, Open, cleared}
 use Rattle.linear.specs.Elimination.{value, Zero, Echelon, Vanishes, VanishesOnPivots, Eliminated, reduced}
 use Rattle.linear.proofs.Equations.{equation}
 use Rattle.plan.proofs.Ring.{minus, minus_below, add-cancel, sub-from, mul-zero, zero-mul}
@@ -178,6 +178,16 @@ module _ (k : Arithmetic) (l : Lawful k) where
     abbrev rest : Equation
     rest = reduced k ps (equation target 0)
 
+    -- Where nothing is left of the row, a vector that gives zero on the rows gives zero on the pivots, and so on the target.
+    nothing_open : has_row k rest ≡ false → Covered k es target
+    nothing_open none z hz zeros =
+        let o = zero_below k l in
+        let vanish : Vanishes k (0 ∷ z) es = λ n d i. value_null k l z (get_or es n d) hz ∙ zeros n d i in
+        sym (value_null k l z (equation target 0) hz)
+        ∙ sym (value-reduced (0 ∷ z) (front_codes k l 0 z o hz) ps (equation target 0) (h.onward (0 ∷ z) (front_vector 0 o z hz) vanish).0)
+        ∙ value_bare 0 o rest z (empty rest none) hz
+        ∙ mul-zero k l _ (code k l rest.word)
+
     -- Where nothing is left of the row, the word is minus what is left of the word.
     pub tells : has_row k rest ≡ false → (w : ℕ) → w ≡ k.sub (0 % k.order) (rest.word % k.order) → Told k es target w
     tells none w is =
@@ -188,6 +198,7 @@ module _ (k : Arithmetic) (l : Lawful k) where
               ∙ sym (value-reduced (m ∷ v) (front_codes k l m v m_below hv) ps (equation target 0) (h.onward (m ∷ v) (whole_vector v hv) (satisfied v es sat)).0)
               ∙ value_bare m m_below rest v (empty rest none) hv
               ∙ sym word,
+          nothing_open none,
         )
 
     -- Where a column is left, the vector that is one there, settled for the pivots, shows that the target is open.

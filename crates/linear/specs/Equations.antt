@@ -18,9 +18,14 @@ gives k row v = dot k (map (column k row) (range_with_len 0 most_data)) v
 abbrev pub Satisfies : Arithmetic → List ℕ → Equation → Type 0
 Satisfies k v e = gives k e.row v ≡ e.word % k.order
 
--- The equations tell the target this word: each data vector that satisfies them all gives it.
+-- The rows leave nothing of the target open: each data vector that gives zero on all of them gives zero on it too.
+abbrev pub Covered : Arithmetic → List Equation → List ℕ → Type 0
+Covered k es target = (z : List ℕ) → Vector k most_data z → All (λ e. gives k e.row z ≡ 0) es → gives k target z ≡ 0
+
+-- The equations tell the target this word: each data vector that satisfies them all gives it, and their rows leave nothing of the target
+-- open, also where no vector satisfies them.
 abbrev pub Told : Arithmetic → List Equation → List ℕ → ℕ → Type 0
-Told k es target w = (w < k.order) × ((v : List ℕ) → Vector k most_data v → All (Satisfies k v) es → gives k target v ≡ w)
+Told k es target w = (w < k.order) × ((v : List ℕ) → Vector k most_data v → All (Satisfies k v) es → gives k target v ≡ w) × Covered k es target
 
 -- They do not: some data vector gives zero on every row and not on the target, so that adding it to a vector that satisfies them all
 -- makes another one, with another word of the target.
