@@ -1,14 +1,14 @@
 -- A call on one bay of a pair: what the shelf that has the bay shows of it, the pair shows.
-use Rattle.std.proofs.Common.{◌≡◌, ℕ, ◌+◌, ◌<◌, Ok, Option, Result, subst, arith}
+use Rattle.std.proofs.Common.{◌≡◌, ℕ, ◌+◌, ◌<◌, Ok, Option, Result, refl, ap, subst, arith}
 use Rattle.shelf.specs.declared.refusal.Refusal.{Refusal}
 use Rattle.shelf.specs.Table.{Table}
 use Rattle.shelf.specs.Calls.{Outcome}
 use Rattle.layers.specs.declared.pair.Half.{Half}
 use Rattle.layers.specs.declared.pair.Half.TheVariants.{First, Second}
 use Rattle.layers.specs.declared.pair.Pair.{Pair}
-use Rattle.layers.specs.Pairs.{paired, InHalf, pair_table, Both}
+use Rattle.layers.specs.Pairs.{paired, InHalf, pair_table, Both, Aside}
 use Rattle.layers.proofs.Parting.{Part, part_settled}
-use Rattle.layers.proofs.Beside.{first_part, second_part}
+use Rattle.layers.proofs.Beside.{fit_table, first_part, second_part}
 
 -- A kind of call, by why it is refused and what it promises of a bay. What it shows of a part of a table, it shows of the whole.
 pub record Kind {A : Type 0} (refusal : ℕ → Table → Option Refusal) (promise : ℕ → Table → Table → Result A Refusal → Type 0) : Type 0 where
@@ -41,3 +41,17 @@ module _ {A B X : Type 0} (f : A → Table) (P : A → Type 0) (g : B → Table)
       let part = second_part (f x.first) t t' fit done.0 in
       part_settled (f x.first).bays t t' u u' part b z at h (Q x.second) (Q c) (Both P Q x) (P x.first × Q c) (λ y. y.1) (λ y w. (w.0, y)) refusal promise r
       (kind.alike (f x.first).bays t t' u u' part b z at h) (kind.lifts (f x.first).bays t t' u u' part b z at h r) done
+
+-- and the other shelf stands still
+module _ {A B : Type 0} (f : A → Table) (g : B → Table) (x : Pair A B) (b : ℕ) (half : Half) (found : InHalf (f x.first) (g x.second) b (Ok half)) where
+  pub aside_first : half ≡ First → (a : A) → Aside f g b x (record { first = a; second = x.second })
+  aside_first is a =
+      let (fit, h) = subst (λ y. InHalf (f x.first) (g x.second) b (Ok y)) is found in
+      let all = ap (λ (u : Table). u.bays) (fit_table (f x.first) (g x.second) fit) in
+      record { second = λ l. refl; first = λ l. absurd (let y : ⊥ = omega (arith, l, h) in y); lacking = λ l. absurd (let y : ⊥ = omega (arith, l, h, all) in y) }
+
+  pub aside_second : (z : ℕ) → half ≡ Second z → (c : B) → Aside f g b x (record { first = x.first; second = c })
+  aside_second z is c =
+      let (fit, at, h) = subst (λ y. InHalf (f x.first) (g x.second) b (Ok y)) is found in
+      let all = ap (λ (u : Table). u.bays) (fit_table (f x.first) (g x.second) fit) in
+      record { second = λ l. absurd (let y : ⊥ = omega (arith, l, at) in y); first = λ l. refl; lacking = λ l. absurd (let y : ⊥ = omega (arith, l, at, h, all) in y) }

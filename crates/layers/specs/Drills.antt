@@ -1,12 +1,12 @@
 -- What a drill means: the shelf that it holds, with the bays stopped whose events have taken effect.
-use Rattle.std.specs.Prelude.{◌≡◌, ℕ, ◌<◌, Bool, true, false, cond, not, ◌&&◌, List, None, Ok, Err, Option, Result}
+use Rattle.std.specs.Prelude.{◌≡◌, ℕ, ◌<◌, Bool, true, false, cond, not, ◌&&◌, List, Some, None, Ok, Err, Option, Result}
 use Rattle.shelf.specs.declared.refusal.Refusal.{Refusal}
 use Rattle.shelf.specs.declared.refusal.Refusal.TheVariants.{Lost}
 use Rattle.shelf.specs.Table.{Table, blank}
 use Rattle.shelf.specs.Calls.{Outcome, refuses_lay, LayAnswer, bit}
 use Rattle.layers.specs.declared.drill.Drill.{Drill}
 use Rattle.layers.specs.declared.overfull.Overfull.{Overfull}
-use Rattle.layers.specs.Schedules.{empty, Planned, counting_unless, stopped, spending_unless}
+use Rattle.layers.specs.Schedules.{empty, Planned, counting, stopped, spending}
 
 -- a table with some bays stopped, whose cells then count as blank
 abbrev pub stopping : (ℕ → Bool) → Table → Table
@@ -36,13 +36,18 @@ pub record Added {S : Type 0} (call bay : ℕ) (d d' : Drill S) (r : Result Unit
   pub shelf : d'.shelf ≡ d.shelf
   pub schedule : Planned call bay d.schedule d'.schedule r
 
--- a call is counted unless it is refused, and the events stay
+-- a refused call changes nothing; any other is counted, and the events stay
 abbrev pub Counts : {S : Type 0} → Option Refusal → Drill S → Drill S → Type 0
-Counts refusal d d' = d'.schedule ≡ counting_unless refusal d.schedule
+Counts (Some e) d d' = d' ≡ d
+Counts None d d' = d'.schedule ≡ counting d.schedule
 
 -- in a bay that is stopped once the call is counted, the answer is lost, and nothing is done below
 abbrev pub StopsCall : {A S : Type 0} → Option Refusal → ℕ → Drill S → Drill S → Result A Refusal → Type 0
 StopsCall refusal bay d d' r = refusal ≡ None → stopped d'.schedule bay ≡ true → (r ≡ Err Lost) × (d'.shelf ≡ d.shelf)
+
+-- and in any other bay, the call is that of the shelf below, whose cells in stopped bays are there still
+abbrev pub PassesCall : {A S : Type 0} → (S → Table) → (S → Type 0) → ℕ → Drill S → Drill S → (Table → Option Refusal) → (Table → Table → Result A Refusal → Type 0) → Result A Refusal → Type 0
+PassesCall f P bay d d' refusal promise r = stopped d'.schedule bay ≡ false → Outcome f P d.shelf d'.shelf refusal promise r
 
 -- the bits of a lay are those that the shelf below answers, less those of the stopped bays
 abbrev pub Masked : {S : Type 0} → (S → Table) → (S → Type 0) → ℕ → List ℕ → Drill S → Drill S → Result ℕ Refusal → Type 0
@@ -51,7 +56,7 @@ Masked f P place ws d d' (Ok bits) =
     × ((b : ℕ) → b < (f d.shelf).bays → bit bits b ≡ (not (stopped d'.schedule b) && bit below b))
 Masked f P place ws d d' (Err e) = Unit {0}
 
--- an exchange that is not refused spends the bay's past events, so that none stops the bay any more, and counts nothing
-pub record Spends {S : Type 0} (refusal : Option Refusal) (bay : ℕ) (d d' : Drill S) : Type 0 where
-  pub schedule : d'.schedule ≡ spending_unless refusal bay d.schedule
-  pub free : refusal ≡ None → stopped d'.schedule bay ≡ false
+-- A refused exchange changes nothing. Any other spends the bay's past events, so that none stops the bay any more, and counts nothing.
+abbrev pub Spends : {S : Type 0} → Option Refusal → ℕ → Drill S → Drill S → Type 0
+Spends (Some e) bay d d' = d' ≡ d
+Spends None bay d d' = (d'.schedule ≡ spending bay d.schedule) × (stopped d'.schedule bay ≡ false)

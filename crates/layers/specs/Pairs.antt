@@ -39,10 +39,11 @@ pair_table f g x = paired (f x.first) (g x.second)
 abbrev pub Both : {A B : Type 0} → (A → Type 0) → (B → Type 0) → Pair A B → Type 0
 Both P Q x = P x.first × Q x.second
 
--- a call on a bay of one shelf leaves the other as it is
-pub record Aside {A B : Type 0} (cut bay : ℕ) (x y : Pair A B) : Type 0 where
-  pub second : bay < cut → y.second ≡ x.second
-  pub first : cut ≤ bay → y.first ≡ x.first
+-- a call on a bay of one shelf leaves the other as it is, and both where the pair lacks the bay
+pub record Aside {A B : Type 0} (f : A → Table) (g : B → Table) (bay : ℕ) (x y : Pair A B) : Type 0 where
+  pub second : bay < (f x.first).bays → y.second ≡ x.second
+  pub first : (f x.first).bays ≤ bay → y.first ≡ x.first
+  pub lacking : (pair_table f g x).bays ≤ bay → y ≡ x
 
 -- The bits of a lay are those that the two shelves answer, the second's above the first's. The first takes as many words as it has
 -- bays, the second those after them.

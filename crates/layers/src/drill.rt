@@ -1,7 +1,7 @@
 ghost use Rattle.std.specs.Prelude.{◌≡◌, ℕ};
 ghost use Rattle.shelf.specs.Table.{Table, Shaped};
 ghost use Rattle.shelf.specs.Calls.{Outcome, refuses_read, refuses_word, refuses_lay, refuses_exchange, Read, Written, LayAnswer, Patched, Exchanged};
-ghost use Rattle.layers.specs.Drills.{drill_table, HeldOrder, New, Added, Counts, StopsCall, Masked, Spends};
+ghost use Rattle.layers.specs.Drills.{drill_table, HeldOrder, New, Added, Counts, StopsCall, PassesCall, Masked, Spends};
 
 use crate::overfull::Overfull;
 use crate::schedule::Schedule;
@@ -55,6 +55,7 @@ impl<S: Shelf> Shelf for Drill<S> {
         ensures promised { Outcome (drill_table S.Shelf.table) (HeldOrder S.Shelf.sound) self.old self.new (refuses_read bay place) (Read bay place) result }
         ensures counts { Counts (refuses_read bay place (S.Shelf.table self.old.shelf)) self.old self.new }
         ensures stops { StopsCall (refuses_read bay place (S.Shelf.table self.old.shelf)) bay self.old self.new result }
+        ensures below { PassesCall S.Shelf.table S.Shelf.sound bay self.old self.new (refuses_read bay place) (Read bay place) result }
     {
         Shape::from(self.shelf.shape()).check_cell(bay, place)?;
         self.schedule.count_call(bay)?;
@@ -65,6 +66,7 @@ impl<S: Shelf> Shelf for Drill<S> {
         ensures promised { Outcome (drill_table S.Shelf.table) (HeldOrder S.Shelf.sound) self.old self.new (refuses_word bay place word) (Written bay place word) result }
         ensures counts { Counts (refuses_word bay place word (S.Shelf.table self.old.shelf)) self.old self.new }
         ensures stops { StopsCall (refuses_word bay place word (S.Shelf.table self.old.shelf)) bay self.old self.new result }
+        ensures below { PassesCall S.Shelf.table S.Shelf.sound bay self.old self.new (refuses_word bay place word) (Written bay place word) result }
     {
         Shape::from(self.shelf.shape()).check_word(bay, place, word)?;
         self.schedule.count_call(bay)?;
@@ -89,6 +91,7 @@ impl<S: Serviceable> Serviceable for Drill<S> {
         ensures promised { Outcome (drill_table S.Shelf.table) (HeldOrder S.Shelf.sound) self.old self.new (refuses_word bay place word) (Patched bay place word) result }
         ensures counts { Counts (refuses_word bay place word (S.Shelf.table self.old.shelf)) self.old self.new }
         ensures stops { StopsCall (refuses_word bay place word (S.Shelf.table self.old.shelf)) bay self.old self.new result }
+        ensures below { PassesCall S.Shelf.table S.Shelf.sound bay self.old self.new (refuses_word bay place word) (Patched bay place word) result }
     {
         Shape::from(self.shelf.shape()).check_word(bay, place, word)?;
         self.schedule.count_call(bay)?;
@@ -98,6 +101,7 @@ impl<S: Serviceable> Serviceable for Drill<S> {
     fn exchange(&mut self, bay: usize) -> Result<(), Refusal>
         ensures promised { Outcome (drill_table S.Shelf.table) (HeldOrder S.Shelf.sound) self.old self.new (refuses_exchange bay) (Exchanged bay) result }
         ensures spends { Spends (refuses_exchange bay (S.Shelf.table self.old.shelf)) bay self.old self.new }
+        ensures below { Outcome S.Shelf.table S.Shelf.sound self.old.shelf self.new.shelf (refuses_exchange bay) (Exchanged bay) result }
     {
         Shape::from(self.shelf.shape()).check_bay(bay)?;
         self.schedule.spend(bay);

@@ -2,6 +2,7 @@ ghost use Rattle.std.specs.Prelude.{◌≡◌, ℕ};
 ghost use Rattle.shelf.specs.Table.{Table, Shaped};
 ghost use Rattle.shelf.specs.Calls.{Outcome, refuses_read, refuses_word, refuses_lay, refuses_exchange, Read, Written, LayAnswer, Patched, Exchanged};
 ghost use Rattle.layers.specs.Pairs.{pair_table, Both, InHalf, Aside, Joined};
+ghost use Rattle.layers.specs.Refused.{LeftAlone};
 
 use shelf::{MOST_BAYS, Refusal, Serviceable, Shape, Shelf};
 
@@ -70,7 +71,7 @@ impl<A: Shelf, B: Shelf> Shelf for Pair<A, B> {
 
     fn read(&mut self, bay: usize, place: usize) -> Result<u32, Refusal>
         ensures promised { Outcome (pair_table A.Shelf.table B.Shelf.table) (Both A.Shelf.sound B.Shelf.sound) self.old self.new (refuses_read bay place) (Read bay place) result }
-        ensures aside { Aside (A.Shelf.table self.old.first).bays bay self.old self.new }
+        ensures aside { Aside A.Shelf.table B.Shelf.table bay self.old self.new }
     {
         match self.half(bay)? {
             Half::First => self.first.read(bay, place),
@@ -80,7 +81,7 @@ impl<A: Shelf, B: Shelf> Shelf for Pair<A, B> {
 
     fn write(&mut self, bay: usize, place: usize, word: u32) -> Result<(), Refusal>
         ensures promised { Outcome (pair_table A.Shelf.table B.Shelf.table) (Both A.Shelf.sound B.Shelf.sound) self.old self.new (refuses_word bay place word) (Written bay place word) result }
-        ensures aside { Aside (A.Shelf.table self.old.first).bays bay self.old self.new }
+        ensures aside { Aside A.Shelf.table B.Shelf.table bay self.old self.new }
     {
         match self.half(bay)? {
             Half::First => self.first.write(bay, place, word),
@@ -91,6 +92,7 @@ impl<A: Shelf, B: Shelf> Shelf for Pair<A, B> {
     fn lay(&mut self, place: usize, words: &[u32]) -> Result<u32, Refusal>
         ensures promised { Outcome (pair_table A.Shelf.table B.Shelf.table) (Both A.Shelf.sound B.Shelf.sound) self.old self.new (refuses_lay place words.now) (LayAnswer place words.now) result }
         ensures bits { Joined A.Shelf.table A.Shelf.sound B.Shelf.table B.Shelf.sound place words.now self.old self.new result }
+        ensures refused { LeftAlone (refuses_lay place words.now (pair_table A.Shelf.table B.Shelf.table self.old)) self.old self.new }
     {
         Shape::from(self.shape()).check_lay(place, words)?;
         let cut = Shape::from(self.first.shape()).bays;
@@ -103,7 +105,7 @@ impl<A: Shelf, B: Shelf> Shelf for Pair<A, B> {
 impl<A: Serviceable, B: Serviceable> Serviceable for Pair<A, B> {
     fn patch(&mut self, bay: usize, place: usize, word: u32) -> Result<(), Refusal>
         ensures promised { Outcome (pair_table A.Shelf.table B.Shelf.table) (Both A.Shelf.sound B.Shelf.sound) self.old self.new (refuses_word bay place word) (Patched bay place word) result }
-        ensures aside { Aside (A.Shelf.table self.old.first).bays bay self.old self.new }
+        ensures aside { Aside A.Shelf.table B.Shelf.table bay self.old self.new }
     {
         match self.half(bay)? {
             Half::First => self.first.patch(bay, place, word),
@@ -113,7 +115,7 @@ impl<A: Serviceable, B: Serviceable> Serviceable for Pair<A, B> {
 
     fn exchange(&mut self, bay: usize) -> Result<(), Refusal>
         ensures promised { Outcome (pair_table A.Shelf.table B.Shelf.table) (Both A.Shelf.sound B.Shelf.sound) self.old self.new (refuses_exchange bay) (Exchanged bay) result }
-        ensures aside { Aside (A.Shelf.table self.old.first).bays bay self.old self.new }
+        ensures aside { Aside A.Shelf.table B.Shelf.table bay self.old self.new }
     {
         match self.half(bay)? {
             Half::First => self.first.exchange(bay),

@@ -1,7 +1,9 @@
 -- A call on one bay of a rack: what the shelf that has the bay shows of it, the rack shows.
-use Rattle.std.proofs.Common.{◌≡◌, ℕ, ◌*◌, ◌<◌, true, List, map, length, get_or, set, vec_items, Ok, Option, Result, sym, ap, ◌∙◌, subst, arith}
+use Rattle.std.proofs.Common.{◌≡◌, ℕ, ◌+◌, ◌*◌, ◌/◌, ◌<◌, ◌≤◌, true, List, map, length, get_or, set, vec_items, Ok, Option, Result, sym, ap, ◌∙◌, subst, arith, length-set, get_or-set_other}
 use Rattle.std.specs.Vec.{with_item}
 use Rattle.std.proofs.lemmas.List.{get_or-map, length-map, map-set}
+use Rattle.std.proofs.lemmas.Nat.{div-mul-add}
+use Rattle.std.proofs.Math.Nat.{mul-le-mul_right}
 use Rattle.std.proofs.lemmas.List.Elements.{All-set}
 use Rattle.shelf.specs.declared.refusal.Refusal.{Refusal}
 use Rattle.shelf.specs.Table.{Table, SameShape}
@@ -10,8 +12,8 @@ use Rattle.layers.proofs.Parting.{Part, part_settled}
 use Rattle.layers.proofs.Halves.{Kind}
 use Rattle.rack.specs.declared.rack.Rack.{Rack}
 use Rattle.rack.specs.declared.rack.Slot.{Slot}
-use Rattle.rack.specs.Racks.{no_table, table_at, fits, racked, rack_table, EachInOrder, InRack}
-use Rattle.rack.proofs.Rows.{fits_like}
+use Rattle.rack.specs.Racks.{no_table, table_at, fits, racked, rack_table, EachInOrder, InRack, Aside}
+use Rattle.rack.proofs.Rows.{fits_like, fit_table}
 use Rattle.rack.proofs.Parts.{rack_part, fit_after, first_same}
 
 -- A shelf of the row, before and after a call on it, is a part of the rack.
@@ -65,3 +67,21 @@ module _ {S : Type 0} (f : S → Table) (xs : List S) (i : ℕ) (s s' : S) (fit 
 
   pub shelf_bays : (f s).bays ≡ (table_at (map f xs) 0).bays
   shelf_bays = sym (ap (λ (t : Table). t.bays) at_shelf) ∙ (fits_like (map f xs) fit i low).bays
+
+-- What a call on a bay makes of the row: the shelf that has the bay is another, and the rest stand as they did.
+pub others_stay : {S : Type 0} (f : S → Table) (rack : Rack S) (b : ℕ) (slot : Slot) → InRack (map f (vec_items rack.shelves)) b (Ok slot) → (s' : S) → Aside f b rack (record { shelves = with_item rack.shelves slot.shelf s' })
+others_stay f rack b slot here s' =
+    let xs = vec_items rack.shelves in
+    let ts = map f xs in
+    let w = (table_at ts 0).bays in
+    let at : b / w ≡ slot.shelf = ap (λ n. n / w) here.3 ∙ div-mul-add slot.shelf w slot.bay here.2 in
+    record {
+      many = length-set xs slot.shelf s';
+      others = λ i d away. get_or-set_other xs slot.shelf i s' d (λ same. away (same ∙ sym at));
+      lacking = λ none.
+          let all = ap (λ (u : Table). u.bays) (fit_table ts here.0) in
+          let m : (slot.shelf + 1) * w ≤ length ts * w = mul-le-mul_right w (let few = here.1 in let z : slot.shelf + 1 ≤ length ts = omega arith in z) in
+          let narrow = here.2 in
+          let is = here.3 in
+          absurd (let y : ⊥ = omega (arith, none, all, m, narrow, is) in y);
+    }

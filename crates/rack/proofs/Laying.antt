@@ -1,9 +1,9 @@
 -- A lay on a rack, shelf after shelf.
-use Rattle.std.proofs.Common.{◌≡◌, ℕ, ◌+◌, ◌-◌, ◌*◌, ◌%◌, ◌^◌, ◌<◌, ◌≤◌, true, false, List, map, length, get_or, set, take, drop, None, Ok, Err, Result, sym, refl, ap, ◌∙◌, subst, inl, ⊎_elim, arith, length-set, get_or-set_other}
+use Rattle.std.proofs.Common.{◌≡◌, ℕ, ◌+◌, ◌-◌, ◌*◌, ◌%◌, ◌^◌, ◌<◌, ◌≤◌, true, false, List, map, length, get_or, set, take, drop, None, Ok, Err, Result, sym, refl, ap, ◌∙◌, subst, inl, ⊎_elim, arith, length-set, get_or-set_same, get_or-set_other}
 use lib.Bits.{bit_or}
 use Rattle.std.specs.Prelude.{All}
 use Rattle.std.proofs.lemmas.Bool.{cases_lt}
-use Rattle.std.proofs.lemmas.List.{length-map, length-take-le, length-drop, get_or-take, get_or-drop}
+use Rattle.std.proofs.lemmas.List.{length-map, length-take-le, length-drop, get_or-take, get_or-drop, get_or_default}
 use Rattle.std.proofs.lemmas.List.Elements.{All-set}
 use Rattle.std.proofs.Math.Nat.{mul-le-mul_right}
 use Rattle.std.proofs.lemmas.Nat.{or_comm, pow_pos}
@@ -16,7 +16,7 @@ use Rattle.shelf.proofs.Settling.{same_shape, undecayed, shape_trans, decayed_tr
 use Rattle.shelf.proofs.Words.{Fit, lay_fit, none_large}
 use Rattle.layers.proofs.Parting.{Part, part_decayed}
 use Rattle.layers.proofs.Laying.{joined, joined_below}
-use Rattle.rack.specs.Racks.{table_at, fits, racked}
+use Rattle.rack.specs.Racks.{table_at, fits, racked, share, LaidShare}
 use Rattle.rack.proofs.Rows.{fit_table, fit_by_place, fits_few}
 use Rattle.rack.proofs.BaysOf.{shelf_part, shelf_bays, fit_set, width_set}
 
@@ -29,7 +29,11 @@ module _ {S : Type 0} (f : S → Table) (P : S → Type 0) (xs : List S) (p : �
 
   -- the words of shelf i
   abbrev part_of : ℕ → List ℕ
-  part_of i = take w (drop (i * w) ws)
+  part_of i = share w i ws
+
+  -- what shelf i did, by its state now
+  abbrev DoneBy : List S → ℕ → ℕ → S → Type 0
+  DoneBy ys bits j d = LaidShare f P p w j ws bits (All P xs) (get_or xs j d) (get_or ys j d)
 
   -- and as the code cuts them
   pub lent : (i width : ℕ) (s0 s1 : S) (r : Result ℕ Refusal) → width ≡ w
@@ -55,6 +59,7 @@ module _ {S : Type 0} (f : S → Table) (P : S → Type 0) (xs : List S) (p : �
     width : (table_at (map f ys) 0).bays ≡ w
     shape : SameShape s (racked (map f ys))
     ahead : (j : ℕ) (d : S) → i ≤ j → get_or ys j d ≡ get_or xs j d
+    pub by_shelf : (j : ℕ) (d : S) → j < i → DoneBy ys bits j d
     so_far : All P xs → All P ys × LaidTo ys i bits
 
   module _ (none : refuses_lay p ws s ≡ None) where
@@ -84,6 +89,7 @@ module _ {S : Type 0} (f : S → Table) (P : S → Type 0) (xs : List S) (p : �
       width = refl;
       shape = same_shape s;
       ahead = λ j d i. refl;
+      by_shelf = λ j d l. absurd (omega (arith, l));
       so_far = λ each. (each, record { rest = undecayed (ThisPlace p) s; set = λ b l. absurd (omega (arith, l)); filled = λ b l. absurd (omega (arith, l)); clear = λ b l. absurd (omega (arith, l)); others = pow_pos (0 * w) });
     }
 
@@ -197,6 +203,40 @@ module _ {S : Type 0} (f : S → Table) (P : S → Type 0) (xs : List S) (p : �
               or_comm bits ((laid * 2 ^ (i * w)) % 4294967296)
               ∙ joined laid (i * w) bits w told.others new_low (let m = within in omega (arith, m))
 
+          -- so each shelf's bits stand where they stood, and the new ones after them
+          stand_before : (j x : ℕ) → j < i → x < w → bit (bit_or bits ((laid * 2 ^ (i * w)) % 4294967296)) (j * w + x) ≡ bit bits (j * w + x)
+          stand_before j x past narrow =
+              let m : (j + 1) * w ≤ i * w = mul-le-mul_right w (let z : j + 1 ≤ i = omega arith in z) in
+              ap (λ n. bit n (j * w + x)) bits_joined ∙ bit_low laid (i * w) bits (j * w + x) (omega (arith, m))
+
+          stand_here : (x : ℕ) → bit (bit_or bits ((laid * 2 ^ (i * w)) % 4294967296)) (i * w + x) ≡ bit laid x
+          stand_here x =
+              let z : i * w + x - i * w ≡ x = omega arith in
+              ap (λ n. bit n (i * w + x)) bits_joined ∙ bit_high laid (i * w) bits (i * w + x) told.others (omega arith) ∙ ap (bit laid) z
+
+        abbrev all_bits : ℕ
+        all_bits = bit_or bits ((laid * 2 ^ (i * w)) % 4294967296)
+
+        told_by : All P xs → LaidTo ys i bits
+        told_by each = (laying.so_far each).1
+
+        new_by : All P xs → Laid p (part_of i) (f s0) (f s1) laid
+        new_by each = (ordered (Ok laid) lays each).1
+
+        -- A shelf before did what it did, and this one what it answers.
+        done_before : (j : ℕ) (d : S) → j < i → DoneBy (set ys i s1) all_bits j d
+        done_before j d past =
+            let before = laying.by_shelf j d past in
+            subst (λ s'. LaidShare f P p w j ws all_bits (All P xs) (get_or xs j d) s') (sym (get_or-set_other ys i j s1 d (omega arith)))
+            (record { own = before.own; laid = before.laid; stand = λ each x narrow. stand_before (told_by each) (new_by each) j x past narrow ∙ before.stand each x narrow })
+
+        done_here : (d : S) → DoneBy (set ys i s1) all_bits i d
+        done_here d =
+            let start : get_or xs i d ≡ s0 = sym (laying.ahead i d (omega arith)) ∙ get_or_default ys i d s0 few' ∙ sym is in
+            subst (λ s'. LaidShare f P p w i ws all_bits (All P xs) (get_or xs i d) s') (sym (get_or-set_same ys i s1 d few'))
+            (subst (λ s'. LaidShare f P p w i ws all_bits (All P xs) s' s1) (sym start)
+            (record { own = laid; laid = lays; stand = λ each x narrow. stand_here (told_by each) (new_by each) x }))
+
         pub laying_more : Laying (set ys i s1) (i + 1) (bit_or bits ((laid * 2 ^ (i * w)) % 4294967296))
         laying_more = record {
           long = length-set ys i s1 ∙ laying.long;
@@ -204,6 +244,10 @@ module _ {S : Type 0} (f : S → Table) (P : S → Type 0) (xs : List S) (p : �
           width = width_set f ys i s0 s1 laying.fit few' is lays.0 ∙ laying.width;
           shape = shape_after (Ok laid) lays;
           ahead = λ j d past. get_or-set_other ys i j s1 d (omega arith) ∙ laying.ahead j d (omega arith);
+          by_shelf = λ j d past. ⊎_elim
+              (λ l. done_before j d l)
+              (λ l. let at : i ≡ j = omega arith in subst (λ j. DoneBy (set ys i s1) all_bits j d) at (done_here d))
+              (cases_lt j i);
           so_far = λ each.
               let (kept, told) = laying.so_far each in
               let (still, new) = ordered (Ok laid) lays each in
@@ -226,3 +270,7 @@ module _ {S : Type 0} (f : S → Table) (P : S → Type 0) (xs : List S) (p : �
             others = subst (λ n. bits < 2 ^ n) (sym e) told.others;
           },
         ))
+
+    -- and each shelf did its part
+    pub laid_by_shelf : (ys : List S) (i bits : ℕ) → Laying ys i bits → length xs ≤ i → (length ys ≡ length xs) × ((j : ℕ) (d : S) → j < length xs → DoneBy ys bits j d)
+    laid_by_shelf ys i bits laying end = (laying.long, λ j d l. laying.by_shelf j d (omega (arith, l, end)))

@@ -1,11 +1,12 @@
 -- What a rack means: bay b is bay b mod w of shelf b div w, where each shelf has w bays. Shelves that do not go together have no bays and
 -- no places.
-use Rattle.std.specs.Prelude.{◌≡◌, ℕ, ◌+◌, ◌*◌, ◌/◌, ◌%◌, ◌<◌, ◌≤◌, Bool, true, false, cond, ◌&&◌, ◌==◌, List, map, length, slice_index_or, Ok, Err, Result, nat_le, vec_items, All}
+use Rattle.std.specs.Prelude.{◌≡◌, ℕ, ◌+◌, ◌*◌, ◌/◌, ◌%◌, ◌<◌, ◌≤◌, Bool, true, false, cond, ◌&&◌, ◌==◌, ◌≢◌, List, map, length, take, drop, slice_index_or, Ok, Err, Result, nat_le, vec_items, All}
 use Rattle.std.specs.List.{list_all}
 use Rattle.shelf.specs.declared.refusal.Refusal.{Refusal}
 use Rattle.shelf.specs.declared.refusal.Refusal.TheVariants.{NoSuchBay}
 use Rattle.shelf.specs.Bounds.{most_bays}
 use Rattle.shelf.specs.Table.{Table, Fitting, blank}
+use Rattle.shelf.specs.Calls.{Outcome, refuses_lay, LayAnswer, bit}
 use Rattle.rack.specs.declared.rack.Rack.{Rack}
 use Rattle.rack.specs.declared.rack.Slot.{Slot}
 
@@ -62,3 +63,30 @@ InRack ts bay (Err e) = (e ≡ NoSuchBay) × ((racked ts).bays ≤ bay)
 -- each shelf's table keeps the bounds of a shelf
 abbrev pub EachFitting : {S : Type 0} → (S → Table) → List S → Type 0
 EachFitting f xs = All (λ s. Fitting (f s)) xs
+
+-- the bays of each shelf
+abbrev pub width : {S : Type 0} → (S → Table) → Rack S → ℕ
+width f r = (table_at (map f (vec_items r.shelves)) 0).bays
+
+-- a call on a bay leaves every other shelf as it is, and all of them where the rack lacks the bay
+pub record Aside {S : Type 0} (f : S → Table) (bay : ℕ) (r r' : Rack S) : Type 0 where
+  pub many : length (vec_items r'.shelves) ≡ length (vec_items r.shelves)
+  pub others : (i : ℕ) (d : S) → i ≢ bay / width f r → slice_index_or (vec_items r'.shelves) i d ≡ slice_index_or (vec_items r.shelves) i d
+  pub lacking : (rack_table f r).bays ≤ bay → r' ≡ r
+
+-- the words of a lay that shelf i takes, where each takes w
+abbrev pub share : ℕ → ℕ → List ℕ → List ℕ
+share w i ws = take w (drop (i * w) ws)
+
+-- Shelf i lays its words, and its bits stand among the rack's from bit i * w on.
+pub record LaidShare {S : Type 0} (f : S → Table) (P : S → Type 0) (place w i : ℕ) (ws : List ℕ) (bits : ℕ) (in_order : Type 0) (s s' : S) : Type 0 where
+  pub own : ℕ
+  pub laid : Outcome f P s s' (refuses_lay place (share w i ws)) (LayAnswer place (share w i ws)) (Ok own)
+  pub stand : in_order → (x : ℕ) → x < w → bit bits (i * w + x) ≡ bit own x
+
+-- So do all shelves in a lay that answers bits.
+abbrev pub LaidByShelf : {S : Type 0} → (S → Table) → (S → Type 0) → ℕ → List ℕ → Rack S → Rack S → Result ℕ Refusal → Type 0
+LaidByShelf {S} f P place ws r r' (Ok bits) =
+    (length (vec_items r'.shelves) ≡ length (vec_items r.shelves))
+    × ((i : ℕ) (d : S) → i < length (vec_items r.shelves) → LaidShare f P place (width f r) i ws bits (EachInOrder P r) (slice_index_or (vec_items r.shelves) i d) (slice_index_or (vec_items r'.shelves) i d))
+LaidByShelf f P place ws r r' (Err e) = Unit {0}

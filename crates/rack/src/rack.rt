@@ -1,7 +1,8 @@
 ghost use Rattle.std.specs.Prelude.{◌≡◌, ℕ, true, map};
 ghost use Rattle.shelf.specs.Table.{Table, Shaped};
-ghost use Rattle.shelf.specs.Calls.{Outcome, refuses_read, refuses_word, refuses_lay, refuses_exchange, Read, Written, LayAnswer, Patched, Exchanged};
-ghost use Rattle.rack.specs.Racks.{all_like, together, table_at, rack_table, EachFitting, EachInOrder, InRack};
+ghost use Rattle.shelf.specs.Calls.{Outcome, refuses_read, refuses_word, refuses_lay, refuses_exchange, Read, Written, LayAnswer, Patched, Exchanged, Clears};
+ghost use Rattle.rack.specs.Racks.{all_like, together, table_at, rack_table, EachFitting, EachInOrder, InRack, Aside, LaidByShelf};
+ghost use Rattle.layers.specs.Refused.{LeftAlone};
 
 use shelf::{Clearable, MOST_BAYS, Refusal, Serviceable, Shape, Shelf};
 
@@ -97,17 +98,27 @@ impl<S: Shelf> Shelf for Rack<S> {
         }
     }
 
-    fn read(&mut self, bay: usize, place: usize) -> Result<u32, Refusal> {
+    fn read(&mut self, bay: usize, place: usize) -> Result<u32, Refusal>
+        ensures promised { Outcome (rack_table S.Shelf.table) (EachInOrder S.Shelf.sound) self.old self.new (refuses_read bay place) (Read bay place) result }
+        ensures aside { Aside S.Shelf.table bay self.old self.new }
+    {
         let slot = self.slot(bay)?;
         self.shelves[slot.shelf].read(slot.bay, place)
     }
 
-    fn write(&mut self, bay: usize, place: usize, word: u32) -> Result<(), Refusal> {
+    fn write(&mut self, bay: usize, place: usize, word: u32) -> Result<(), Refusal>
+        ensures promised { Outcome (rack_table S.Shelf.table) (EachInOrder S.Shelf.sound) self.old self.new (refuses_word bay place word) (Written bay place word) result }
+        ensures aside { Aside S.Shelf.table bay self.old self.new }
+    {
         let slot = self.slot(bay)?;
         self.shelves[slot.shelf].write(slot.bay, place, word)
     }
 
-    fn lay(&mut self, place: usize, words: &[u32]) -> Result<u32, Refusal> {
+    fn lay(&mut self, place: usize, words: &[u32]) -> Result<u32, Refusal>
+        ensures promised { Outcome (rack_table S.Shelf.table) (EachInOrder S.Shelf.sound) self.old self.new (refuses_lay place words.now) (LayAnswer place words.now) result }
+        ensures bits { LaidByShelf S.Shelf.table S.Shelf.sound place words.now self.old self.new result }
+        ensures refused { LeftAlone (refuses_lay place words.now (rack_table S.Shelf.table self.old)) self.old self.new }
+    {
         Shape::from(self.shape()).check_lay(place, words)?;
         let width = self.shelf_bays();
         let mut bits = 0;
@@ -121,19 +132,28 @@ impl<S: Shelf> Shelf for Rack<S> {
 }
 
 impl<S: Serviceable> Serviceable for Rack<S> {
-    fn patch(&mut self, bay: usize, place: usize, word: u32) -> Result<(), Refusal> {
+    fn patch(&mut self, bay: usize, place: usize, word: u32) -> Result<(), Refusal>
+        ensures promised { Outcome (rack_table S.Shelf.table) (EachInOrder S.Shelf.sound) self.old self.new (refuses_word bay place word) (Patched bay place word) result }
+        ensures aside { Aside S.Shelf.table bay self.old self.new }
+    {
         let slot = self.slot(bay)?;
         self.shelves[slot.shelf].patch(slot.bay, place, word)
     }
 
-    fn exchange(&mut self, bay: usize) -> Result<(), Refusal> {
+    fn exchange(&mut self, bay: usize) -> Result<(), Refusal>
+        ensures promised { Outcome (rack_table S.Shelf.table) (EachInOrder S.Shelf.sound) self.old self.new (refuses_exchange bay) (Exchanged bay) result }
+        ensures aside { Aside S.Shelf.table bay self.old self.new }
+    {
         let slot = self.slot(bay)?;
         self.shelves[slot.shelf].exchange(slot.bay)
     }
 }
 
 impl<S: Clearable> Clearable for Rack<S> {
-    fn clear(&mut self, place: usize) {
+    fn clear(&mut self, place: usize)
+        ensures promised { Clears (rack_table S.Shelf.table) (EachInOrder S.Shelf.sound) place self.old self.new }
+        ensures lacking { (rack_table S.Shelf.table self.old).bays ≡ 0 → self.new ≡ self.old }
+    {
         if Shape::from(self.shape()).bays == 0 {
             return;
         }

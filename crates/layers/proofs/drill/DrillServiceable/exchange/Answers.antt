@@ -1,9 +1,10 @@
-use Rattle.std.proofs.Common.{Option, sym, ap, ◌∙◌}
+use Rattle.std.proofs.Common.{Option, sym, ap, ◌∙◌, subst}
 use Rattle.shelf.specs.declared.refusal.Refusal.{Refusal}
 use Rattle.shelf.specs.Calls.{refuses_exchange, Exchanged}
 use Rattle.shelf.proofs.Settling.{tested_exchange, done, when_done}
 use Rattle.layers.specs.declared.schedule.Schedule.{Schedule}
-use Rattle.layers.specs.Schedules.{stopped, spending_unless}
+use Rattle.layers.specs.Schedules.{stopped}
+use Rattle.layers.specs.Drills.{Spends}
 use Rattle.layers.proofs.Halting.{stopped_other, stopped_none, stop_shape, stop_exchanged}
 use Rattle.layers.proofs.drill.DrillServiceable.exchange.Goals as goal
 
@@ -25,7 +26,5 @@ returns-clause-spends g c =
     let d = c.args.self.now in
     let bay = c.args.bay in
     let none = tested_exchange (g.S.Shelf.table d.shelf) _ _ c.shape.ensures c.from.ensures bay c.in_ok-check_bay.ensures in
-    record {
-      schedule = c.spend.ensures ∙ ap (λ (o : Option Refusal). spending_unless o bay d.schedule) (sym none);
-      free = λ _. ap (λ (x : Schedule). stopped x bay) c.spend.ensures ∙ stopped_none d.schedule bay;
-    }
+    subst (λ (o : Option Refusal). Spends o bay d (record { shelf = c.exchange.new.self; schedule = c.spend.new.self })) (sym none)
+    (c.spend.ensures, ap (λ (x : Schedule). stopped x bay) c.spend.ensures ∙ stopped_none d.schedule bay)

@@ -1,5 +1,5 @@
 use Rattle.shelf.specs.Calls.{refuses_word, Patched}
-use Rattle.layers.proofs.Halves.{on_first, on_second}
+use Rattle.layers.proofs.Halves.{on_first, on_second, aside_first, aside_second}
 use Rattle.layers.proofs.BayCalls.{patches}
 use Rattle.layers.proofs.pair.PairServiceable.patch.Goals as goal
 
@@ -12,3 +12,11 @@ pub returns-in-Second-clause-promised : goal.returns-in-Second-clause-promised
 returns-in-Second-clause-promised g c =
     on_second g.A.Shelf.table g.A.Shelf.sound g.B.Shelf.table g.B.Shelf.sound (λ b. refuses_word b c.args.place c.args.word) (λ b. Patched b c.args.place c.args.word) (patches c.args.place c.args.word) c.args.self.now c.args.bay c.in_ok-half.field-0 c.in_ok-half.ensures
     c.in-Second.bay c.in-Second.is c.patch-in-Second.new.self c.patch-in-Second.result c.patch-in-Second.ensures
+
+pub returns-in-First-clause-aside : goal.returns-in-First-clause-aside
+returns-in-First-clause-aside g c =
+    aside_first g.A.Shelf.table g.B.Shelf.table c.args.self.now c.args.bay c.in_ok-half.field-0 c.in_ok-half.ensures c.in-First.is c.patch.new.self
+
+pub returns-in-Second-clause-aside : goal.returns-in-Second-clause-aside
+returns-in-Second-clause-aside g c =
+    aside_second g.A.Shelf.table g.B.Shelf.table c.args.self.now c.args.bay c.in_ok-half.field-0 c.in_ok-half.ensures c.in-Second.bay c.in-Second.is c.patch-in-Second.new.self

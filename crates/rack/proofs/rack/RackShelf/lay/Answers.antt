@@ -3,7 +3,7 @@ use lib.Bits.{bit_or}
 use Rattle.std.proofs.lemmas.Result.{err_from_is_err_and}
 use Rattle.shelf.proofs.Settling.{tested_lay}
 use Rattle.rack.specs.Racks.{racked}
-use Rattle.rack.proofs.Laying.{Laying, lent, cut_within, laying_none, laying_more, laying_fails, laying_all}
+use Rattle.rack.proofs.Laying.{Laying, lent, cut_within, laying_none, laying_more, laying_fails, laying_all, laid_by_shelf}
 use Rattle.rack.proofs.rack.RackShelf.lay.Goals as goal
 
 pub loop-i-init : goal.loop-i-init
@@ -13,8 +13,8 @@ loop-i-init g c =
     let none = tested_lay (racked (map f xs)) _ _ c.shape.ensures c.from.ensures c.args.place c.args.words.now c.in_ok-check_lay.ensures in
     laying_none f g.S.Shelf.sound xs c.args.place c.args.words.now none
 
-pub returns : goal.returns
-returns g c =
+pub returns-clause-promised : goal.returns-clause-promised
+returns-clause-promised g c =
     let f = g.S.Shelf.table in
     let xs = c.args.self.now.shelves.items in
     let none = tested_lay (racked (map f xs)) _ _ c.shape.ensures c.from.ensures c.args.place c.args.words.now c.in_ok-check_lay.ensures in
@@ -36,8 +36,8 @@ loop-i-preserved g c =
     subst (λ v. Laying f g.S.Shelf.sound xs c.args.place c.args.words.now (set c.loop-i.self.shelves.items c.loop-i.i s1) (c.loop-i.i + 1) (bit_or c.loop-i.bits ((laid * 2 ^ (c.loop-i.i * v)) % 4294967296))) (sym c.shelf_bays-width.ensures)
     (laying_more f g.S.Shelf.sound xs c.args.place c.args.words.now none c.loop-i.self.shelves.items c.loop-i.i c.loop-i.bits c.loop-i.invariant few s0 s1 c.index_mut.ensures.value laid lays)
 
-pub returns-in_err-laid : goal.returns-in_err-laid
-returns-in_err-laid g c =
+pub returns-in_err-laid-clause-promised : goal.returns-in_err-laid-clause-promised
+returns-in_err-laid-clause-promised g c =
     let f = g.S.Shelf.table in
     let xs = c.args.self.now.shelves.items in
     let none = tested_lay (racked (map f xs)) _ _ c.shape.ensures c.from.ensures c.args.place c.args.words.now c.in_ok-check_lay.ensures in
@@ -94,3 +94,11 @@ slice_bounds-lay-end g c =
     let few : c.loop-i.i < length xs = omega (arith, c.loop-i-test.true, c.len-i-end.ensures, c.args.self.now.shelves.ok.0) in
     let low = cut_within f g.S.Shelf.sound xs c.args.place c.args.words.now none c.loop-i.i c.shelf_bays-width.result few c.shelf_bays-width.ensures in
     omega (arith, low)
+
+pub returns-clause-bits : goal.returns-clause-bits
+returns-clause-bits g c =
+    let f = g.S.Shelf.table in
+    let xs = c.args.self.now.shelves.items in
+    let none = tested_lay (racked (map f xs)) _ _ c.shape.ensures c.from.ensures c.args.place c.args.words.now c.in_ok-check_lay.ensures in
+    laid_by_shelf f g.S.Shelf.sound xs c.args.place c.args.words.now none c.loop-i.self.shelves.items c.loop-i.i c.loop-i.bits c.loop-i.invariant
+    (omega (arith, c.loop-i-test.false, c.len-i-end.ensures, c.args.self.now.shelves.ok.0))
