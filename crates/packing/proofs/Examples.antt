@@ -1,5 +1,5 @@
 -- What some words mean.
-use Rattle.std.proofs.Common.{◌≡◌, [], ◌∷◌, ◌++◌, Some, None, refl}
+use Rattle.std.proofs.Common.{◌≡◌, [], ◌∷◌, Some, None, refl}
 use Rattle.packing.specs.declared.packing.Packing.TheVariants.{Halves, Bytes, Pairs}
 use Rattle.packing.specs.Packed.{packed, length_words}
 use Rattle.packing.specs.Unpacked.{unpacked, file_words}
