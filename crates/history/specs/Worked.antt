@@ -1,5 +1,5 @@
 -- A worked history: that the law of a run leaves room for kept writes, for words that only other cells tell, and for lost ones.
-use Rattle.std.specs.Prelude.{◌≡◌, ℕ, true, List, [], ◌∷◌, Ok, Err, slice_index_or, vec_items}
+use Rattle.std.specs.Prelude.{◌≡◌, ℕ, true, List, [], ◌∷◌, length, Ok, Err, slice_index_or, vec_items}
 use Rattle.std.specs.Global.{Vec}
 use Rattle.field.specs.Fields.{nibble}
 use Rattle.plan.specs.Coefficients.{Coefficients}
@@ -11,7 +11,7 @@ use Rattle.history.specs.declared.call.Call.{Call}
 use Rattle.history.specs.declared.call.Call.TheVariants.{Read, Write, Lay}
 use Rattle.history.specs.declared.call.Answer.{Answer}
 use Rattle.history.specs.declared.call.Answer.TheVariants.{Word, Done, Bits}
-use Rattle.history.specs.Runs.{RunsNew}
+use Rattle.history.specs.Runs.{RunsArray, RunsNew}
 
 -- Three bays of one place, with these cells. All run: a cell may go blank on a bay that runs.
 abbrev pub cells : List Cell → Table
@@ -39,8 +39,10 @@ WorkedCalls words calls = (vec_items words ≡ 4 ∷ 9 ∷ []) × (calls ≡ Lay
 abbrev pub worked_answers : List Answer
 worked_answers = Bits (Ok 3) ∷ Done (Ok tt) ∷ Word (Ok 9) ∷ Word (Err Lost) ∷ []
 
--- What a run promises from a new array holds of these calls and answers, and so do its premises: the shelf below is in order, and all of
--- its cells are blank. The states below are here the tables themselves, of which those that keep the bounds of a shelf are in order.
+-- What a run promises holds of these calls and answers: from a new array, of which the premises hold too, since the shelf below is in
+-- order and all of its cells are blank; and from any book. The states below are here the tables themselves, of which those that keep the
+-- bounds of a shelf are in order.
 abbrev pub Worked : List Call → Type 0
 Worked calls =
     ((words : Vec ℕ) × WorkedCalls words calls) × Fitting blanked.below × AllBlank blanked.below × RunsNew (λ t. t) Fitting nibble (λ x. x) blanked reduced calls worked_answers (Ok tt)
+    × ((answers : List Answer) → length answers ≡ 4 → RunsArray (λ t. t) Fitting nibble (λ x. x) blanked reduced calls answers worked_answers (Ok tt))
