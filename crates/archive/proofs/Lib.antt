@@ -1,3 +1,4 @@
 pub mod Held
 pub mod Calls
 pub mod Coding
+mod Listing

@@ -3,3 +3,4 @@ pub mod Outcome
 pub mod Stripes
 pub mod Contents
 pub mod Entries
+pub mod Texts

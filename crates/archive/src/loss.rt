@@ -1,5 +1,6 @@
-ghost use Rattle.std.specs.Prelude.{◌≡◌, cond, not};
+ghost use Rattle.std.specs.Prelude.{◌≡◌, cond, not, Some};
 ghost use Rattle.shelf.specs.Calls.{bit};
+ghost use Rattle.archive.specs.Texts.{data_bays, listing, loss_text};
 
 use shelf::bit;
 use std::fmt;
@@ -31,20 +32,28 @@ impl DataBays<'_> {
 }
 
 impl fmt::Display for DataBays<'_> {
+    ghost output = { λ d. Some (listing (data_bays d.told d.loss.now)) };
+
+    #[tactic(auto, using(crate::proofs::Listing::listed_more, crate::proofs::Listing::none_more, crate::proofs::Listing::listed_all))]
     fn fmt<W: fmt::Write>(&self, f: &mut fmt::Formatter<W>) -> fmt::Result {
-        let mut bays = (0..self.loss.data_bays).filter(|bay| self.holds(*bay));
-        let Some(first) = bays.next() else {
-            return f.write_str("none");
-        };
-        write!(f, "{first}")?;
-        for bay in bays {
-            write!(f, " {bay}")?;
+        let mut first = true;
+        for bay in 0..self.loss.data_bays {
+            if self.holds(bay) {
+                if !first {
+                    f.write_str(" ")?;
+                }
+                write!(f, "{bay}")?;
+                first = false;
+            }
         }
-        Ok(())
+        if first { f.write_str("none") } else { Ok(()) }
     }
 }
 
+// By hand, here and below: what a derive prints has no contract.
 impl fmt::Display for Loss {
+    ghost output = { λ l. Some (loss_text l) };
+
     fn fmt<W: fmt::Write>(&self, f: &mut fmt::Formatter<W>) -> fmt::Result {
         let told = DataBays {
             loss: self,

@@ -1,5 +1,6 @@
-ghost use Rattle.std.specs.Prelude.{◌≡◌, codes};
+ghost use Rattle.std.specs.Prelude.{◌≡◌, codes, Some};
 ghost use Rattle.archive.specs.Fields.{arithmetic_of};
+ghost use Rattle.archive.specs.Texts.{after_blanks, listing, verdict, rewrite_text, report_text};
 
 use crate::loss::Loss;
 use crate::stripe::{Rewrite, Stripe};
@@ -28,23 +29,33 @@ pub enum Report {
     Lost(Loss),
 }
 
-// Words, with blanks between them; `none` where there is none.
+// Words, each behind a blank.
+#[derive(Clone, Copy)]
+struct BehindBlanks<'a>(&'a [u32]);
+
+impl fmt::Display for BehindBlanks<'_> {
+    ghost output = { λ r. Some (after_blanks r.0.now) };
+
+    fn fmt<W: fmt::Write>(&self, f: &mut fmt::Formatter<W>) -> fmt::Result {
+        for word in self.0 {
+            write!(f, " {word}")?;
+        }
+        Ok(())
+    }
+}
+
+// Words, with blanks between them; `none` where there is none. Std's join allocates, which printing can't.
 #[derive(Clone, Copy)]
 struct Row<'a>(&'a [u32]);
 
 impl fmt::Display for Row<'_> {
+    ghost output = { λ r. Some (listing r.0.now) };
+
     fn fmt<W: fmt::Write>(&self, f: &mut fmt::Formatter<W>) -> fmt::Result {
-        if self.0.is_empty() {
-            return f.write_str("none");
+        match self.0 {
+            [] => f.write_str("none"),
+            [first, rest @ ..] => write!(f, "{first}{}", BehindBlanks(rest)),
         }
-        // With a blank before all but the first: std's join allocates, which printing can't.
-        for (i, word) in self.0.iter().enumerate() {
-            if i > 0 {
-                f.write_str(" ")?;
-            }
-            write!(f, "{word}")?;
-        }
-        Ok(())
     }
 }
 
@@ -62,7 +73,8 @@ fn order_of(field: FieldName) -> u32
 impl Rewrite {
     // Whether the moved checks are the ones computed afresh.
     fn verdict(&self) -> &'static str
-        ensures { self.entry.now.after.items ≡ self.entry.now.afresh.items → result.now ≡ codes "the same" }
+        ensures word { result.now ≡ verdict self.entry.now.after.items self.entry.now.afresh.items }
+        ensures same { self.entry.now.after.items ≡ self.entry.now.afresh.items → result.now ≡ codes "the same" }
     {
         if self.after == self.afresh {
             "the same"
@@ -73,6 +85,8 @@ impl Rewrite {
 }
 
 impl fmt::Display for Rewrite {
+    ghost output = { λ w. Some (rewrite_text w) };
+
     fn fmt<W: fmt::Write>(&self, f: &mut fmt::Formatter<W>) -> fmt::Result {
         write!(
             f,
@@ -86,6 +100,8 @@ impl fmt::Display for Rewrite {
 }
 
 impl fmt::Display for Report {
+    ghost output = { λ r. Some (report_text r) };
+
     fn fmt<W: fmt::Write>(&self, f: &mut fmt::Formatter<W>) -> fmt::Result {
         match self {
             Report::Described(
