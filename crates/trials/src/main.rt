@@ -1,0 +1,42 @@
+// Runs what is only tested, on the real crates: one of every refusal of every call, and random histories on piles of arrays, drills and
+// devices, each answer beside a plain second computation.
+#![tactic(auto)]
+
+mod account;
+mod attempts;
+mod book;
+mod calls;
+mod elimination;
+mod generator;
+mod histories;
+mod log;
+mod makings;
+mod piles;
+mod plain_fields;
+mod plain_plan;
+mod refusals;
+mod seen;
+mod service;
+mod tally;
+mod trial;
+mod vectors;
+mod view;
+mod watched;
+
+use crate::log::Log;
+use anyhow::ensure;
+
+fn main(rt: HostRuntime) -> anyhow::Result<()> {
+    let mut log = Log::new();
+    makings::trays(&rt, &mut log)?;
+    makings::images(&rt, &mut log)?;
+    makings::plans(&rt, &mut log)?;
+    makings::events(&rt, &mut log)?;
+    refusals::show(&rt, &mut log)?;
+    log.end(&rt)?;
+    let tally = histories::all(rt.alloc())?;
+    tally.print(&rt)?;
+    let wrong = tally.wrong().saturating_add(log.wrong());
+    ensure!(wrong == 0, "{wrong} disagreed");
+    Ok(())
+}
