@@ -19,7 +19,7 @@ use Rattle.shelf.proofs.Words.{lay_fit, none_large}
 use Rattle.shelf.proofs.Gathering.{bit_low}
 use Rattle.linear.specs.Sets.{TellsJust}
 use Rattle.array.specs.declared.coded.Array.{Array}
-use Rattle.array.specs.Tables.{array_table, ArrayOrder, ArrayOutcome, Beneath}
+use Rattle.array.specs.Tables.{array_table, ArrayOrder, ArrayOutcome, Beneath, LayBits}
 use Rattle.array.specs.Decoding.{Gives, Agrees, AllowsOne, decoded, InOrder}
 use Rattle.array.specs.Changes.{row_words, LayBelow}
 use Rattle.array.proofs.Adding.{gives_plus, zero_between}
@@ -198,3 +198,7 @@ module _ {S P : Type 0} (table : S → Table) (sound : S → Type 0) (k : Arithm
       lay_below =
           beneath table sound k coefficients before (refuses_lay p ws) none below (LayBelow p ws (Ok bits))
           (λ ordered. record { low = low; laid = (laid_so (Ok low) lay ordered).1; told = data_told; others = few_bits })
+
+      -- of which B tells below
+      pub lay_told : (B : S → S → ℕ → List ℕ → Result ℕ Refusal → Type 0) → B before.below below p (row_words k x ws) (Ok low) → LayBits table sound B k coefficients before then p ws (Ok bits)
+      lay_told B told_below = (low, lay, told_below, data_told, few_bits)

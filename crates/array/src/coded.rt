@@ -2,7 +2,7 @@ ghost use Rattle.std.specs.Prelude.{◌≡◌};
 ghost use Rattle.shelf.specs.Table.{Shaped};
 ghost use Rattle.shelf.specs.Calls.{refuses_read, refuses_word, refuses_lay, Read, Written, LayAnswer};
 ghost use Rattle.array.specs.Decoding.{InOrder, Means};
-ghost use Rattle.array.specs.Tables.{array_table, ArrayOrder, ArrayOutcome, Beneath};
+ghost use Rattle.array.specs.Tables.{array_table, ArrayOrder, ArrayOutcome, Beneath, LayBits};
 ghost use Rattle.array.specs.Changes.{ReadBelow, WriteBelow, LayBelow};
 
 use crate::finding::find_word;
@@ -51,6 +51,8 @@ impl<S: Shelf, P: Plan> Shelf for Array<S, P> {
 
     ghost sound = { ArrayOrder S.Shelf.table S.Shelf.sound P.F.Field.arithmetic P.Plan.coefficients };
 
+    ghost lay_bits = { LayBits S.Shelf.table S.Shelf.sound S.Shelf.lay_bits P.F.Field.arithmetic P.Plan.coefficients };
+
     fn shape(&self) -> (usize, usize, u32)
         ensures promised { Shaped (array_table S.Shelf.table P.F.Field.arithmetic P.Plan.coefficients self.now) result }
         ensures means { InOrder P.F.Field.arithmetic (P.Plan.coefficients self.now.plan) (S.Shelf.table self.now.below) → Means P.F.Field.arithmetic (P.Plan.coefficients self.now.plan) (S.Shelf.table self.now.below) }
@@ -89,6 +91,7 @@ impl<S: Shelf, P: Plan> Shelf for Array<S, P> {
     fn lay(&mut self, place: usize, words: &[u32]) -> Result<u32, Refusal>
         ensures promised { ArrayOutcome S.Shelf.table S.Shelf.sound P.F.Field.arithmetic P.Plan.coefficients self.old self.new (refuses_lay place words.now) (LayAnswer place words.now) result }
         ensures below { Beneath S.Shelf.table S.Shelf.sound P.F.Field.arithmetic P.Plan.coefficients self.old self.new (refuses_lay place words.now) (LayBelow place words.now result) }
+        ensures bits { LayBits S.Shelf.table S.Shelf.sound S.Shelf.lay_bits P.F.Field.arithmetic P.Plan.coefficients self.old self.new place words.now result }
     {
         Shape::from(self.shape()).check_lay(place, words)?;
         let all = row_words(&self.plan, words);

@@ -70,6 +70,8 @@ impl Shelf for Disk {
 
     ghost sound = { InOrder };
 
+    ghost lay_bits = { λ before after place words answer. answer ≡ laid before.running place words (disk_table before) };
+
     fn shape(&self) -> (usize, usize, u32) {
         match self.check() {
             Ok(()) => (1, self.words.len(), self.limit),

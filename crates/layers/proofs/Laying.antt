@@ -49,13 +49,13 @@ cut_by s t n shape is from cut at p ws e =
     let all = ap (λ (u : Table). u.bays) (fit_table s t fit) in
     record { none = none; fit = fit; at = at; within = omega (arith, h.count, all, at) }
 
-module _ {S : Type 0} (f : S → Table) (P : S → Type 0) (x y : S) (p : ℕ) (ws : List ℕ) (cut k : ℕ) (at : cut ≡ k) (r : Result ℕ Refusal) where
-  -- what the first shelf shows, and the second, of the part of the words that each is lent
-  pub of_first : Outcome f P x y (refuses_lay p (take cut ws)) (LayAnswer p (take cut ws)) r → Outcome f P x y (refuses_lay p (take k ws)) (LayAnswer p (take k ws)) r
-  of_first h = subst (λ n. Outcome f P x y (refuses_lay p (take n ws)) (LayAnswer p (take n ws)) r) at h
+-- what holds of the words that each shelf is lent, the first those of its bays and the second the rest, as the code cuts them
+module _ (Q : List ℕ → Type 0) (ws : List ℕ) (cut k : ℕ) (at : cut ≡ k) where
+  pub of_first : Q (take cut ws) → Q (take k ws)
+  of_first h = subst (λ n. Q (take n ws)) at h
 
-  pub of_second : Outcome f P x y (refuses_lay p (take (length ws - cut) (drop cut ws))) (LayAnswer p (take (length ws - cut) (drop cut ws))) r → Outcome f P x y (refuses_lay p (drop k ws)) (LayAnswer p (drop k ws)) r
-  of_second h = subst (λ (vs : List ℕ). Outcome f P x y (refuses_lay p vs) (LayAnswer p vs) r) (take_rest ws cut ∙ ap (λ n. drop n ws) at) h
+  pub of_second : Q (take (length ws - cut) (drop cut ws)) → Q (drop k ws)
+  of_second h = subst Q (take_rest ws cut ∙ ap (λ n. drop n ws) at) h
 
 -- what a cell keeps, under equal cells
 kept_as : (x x' y y' : Cell) → x' ≡ x → y' ≡ y → Kept x y → Kept x' y'

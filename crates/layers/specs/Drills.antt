@@ -49,12 +49,12 @@ StopsCall refusal bay d d' r = refusal ≡ None → stopped d'.schedule bay ≡ 
 abbrev pub PassesCall : {A S : Type 0} → (S → Table) → (S → Type 0) → ℕ → Drill S → Drill S → (Table → Option Refusal) → (Table → Table → Result A Refusal → Type 0) → Result A Refusal → Type 0
 PassesCall f P bay d d' refusal promise r = stopped d'.schedule bay ≡ false → Outcome f P d.shelf d'.shelf refusal promise r
 
--- the bits of a lay are those that the shelf below answers, less those of the stopped bays
-abbrev pub Masked : {S : Type 0} → (S → Table) → (S → Type 0) → ℕ → List ℕ → Drill S → Drill S → Result ℕ Refusal → Type 0
-Masked f P place ws d d' (Ok bits) =
+-- the bits of a lay are those that the shelf below answers, of which B tells, less those of the stopped bays
+abbrev pub Masked : {S : Type 0} → (S → Table) → (S → Type 0) → (S → S → ℕ → List ℕ → Result ℕ Refusal → Type 0) → Drill S → Drill S → ℕ → List ℕ → Result ℕ Refusal → Type 0
+Masked f P B d d' place ws (Ok bits) =
     (below : ℕ) × Outcome f P d.shelf d'.shelf (refuses_lay place ws) (LayAnswer place ws) (Ok below)
-    × ((b : ℕ) → b < (f d.shelf).bays → bit bits b ≡ (not (stopped d'.schedule b) && bit below b))
-Masked f P place ws d d' (Err e) = Unit {0}
+    × ((b : ℕ) → b < (f d.shelf).bays → bit bits b ≡ (not (stopped d'.schedule b) && bit below b)) × B d.shelf d'.shelf place ws (Ok below)
+Masked f P B d d' place ws (Err e) = Unit {0}
 
 -- A refused exchange changes nothing. Any other spends the bay's past events, so that none stops the bay any more, and counts nothing.
 abbrev pub Spends : {S : Type 0} → Option Refusal → ℕ → Drill S → Drill S → Type 0

@@ -45,11 +45,12 @@ pub record Aside {A B : Type 0} (f : A → Table) (g : B → Table) (bay : ℕ) 
   pub first : (f x.first).bays ≤ bay → y.first ≡ x.first
   pub lacking : (pair_table f g x).bays ≤ bay → y ≡ x
 
--- The bits of a lay are those that the two shelves answer, the second's above the first's. The first takes as many words as it has
--- bays, the second those after them.
-abbrev pub Joined : {A B : Type 0} → (A → Table) → (A → Type 0) → (B → Table) → (B → Type 0) → ℕ → List ℕ → Pair A B → Pair A B → Result ℕ Refusal → Type 0
-Joined f P g Q place ws x y (Ok bits) =
+-- The bits of a lay are those that the two shelves answer, of which C and D tell, the second's above the first's. The first takes as
+-- many words as it has bays, the second those after them.
+abbrev pub Joined : {A B : Type 0} → (A → Table) → (A → Type 0) → (A → A → ℕ → List ℕ → Result ℕ Refusal → Type 0) → (B → Table) → (B → Type 0) → (B → B → ℕ → List ℕ → Result ℕ Refusal → Type 0) → Pair A B → Pair A B → ℕ → List ℕ → Result ℕ Refusal → Type 0
+Joined f P C g Q D x y place ws (Ok bits) =
     (low high : ℕ) × (Both P Q x → bits ≡ high * 2 ^ (f x.first).bays + low)
     × Outcome f P x.first y.first (refuses_lay place (take (f x.first).bays ws)) (LayAnswer place (take (f x.first).bays ws)) (Ok low)
     × Outcome g Q x.second y.second (refuses_lay place (drop (f x.first).bays ws)) (LayAnswer place (drop (f x.first).bays ws)) (Ok high)
-Joined f P g Q place ws x y (Err e) = Unit {0}
+    × C x.first y.first place (take (f x.first).bays ws) (Ok low) × D x.second y.second place (drop (f x.first).bays ws) (Ok high)
+Joined f P C g Q D x y place ws (Err e) = Unit {0}

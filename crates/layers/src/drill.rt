@@ -47,6 +47,8 @@ impl<S: Shelf> Shelf for Drill<S> {
 
     ghost sound = { HeldOrder S.Shelf.sound };
 
+    ghost lay_bits = { Masked S.Shelf.table S.Shelf.sound S.Shelf.lay_bits };
+
     fn shape(&self) -> (usize, usize, u32) {
         self.shelf.shape()
     }
@@ -76,7 +78,7 @@ impl<S: Shelf> Shelf for Drill<S> {
     fn lay(&mut self, place: usize, words: &[u32]) -> Result<u32, Refusal>
         ensures promised { Outcome (drill_table S.Shelf.table) (HeldOrder S.Shelf.sound) self.old self.new (refuses_lay place words.now) (LayAnswer place words.now) result }
         ensures counts { Counts (refuses_lay place words.now (S.Shelf.table self.old.shelf)) self.old self.new }
-        ensures bits { Masked S.Shelf.table S.Shelf.sound place words.now self.old self.new result }
+        ensures bits { Masked S.Shelf.table S.Shelf.sound S.Shelf.lay_bits self.old self.new place words.now result }
     {
         let shape = Shape::from(self.shelf.shape());
         shape.check_lay(place, words)?;

@@ -58,6 +58,8 @@ impl<A: Shelf, B: Shelf> Shelf for Pair<A, B> {
 
     ghost sound = { Both A.Shelf.sound B.Shelf.sound };
 
+    ghost lay_bits = { Joined A.Shelf.table A.Shelf.sound A.Shelf.lay_bits B.Shelf.table B.Shelf.sound B.Shelf.lay_bits };
+
     fn shape(&self) -> (usize, usize, u32) {
         let first = Shape::from(self.first.shape());
         let second = Shape::from(self.second.shape());
@@ -91,7 +93,7 @@ impl<A: Shelf, B: Shelf> Shelf for Pair<A, B> {
 
     fn lay(&mut self, place: usize, words: &[u32]) -> Result<u32, Refusal>
         ensures promised { Outcome (pair_table A.Shelf.table B.Shelf.table) (Both A.Shelf.sound B.Shelf.sound) self.old self.new (refuses_lay place words.now) (LayAnswer place words.now) result }
-        ensures bits { Joined A.Shelf.table A.Shelf.sound B.Shelf.table B.Shelf.sound place words.now self.old self.new result }
+        ensures bits { Joined A.Shelf.table A.Shelf.sound A.Shelf.lay_bits B.Shelf.table B.Shelf.sound B.Shelf.lay_bits self.old self.new place words.now result }
         ensures refused { LeftAlone (refuses_lay place words.now (pair_table A.Shelf.table B.Shelf.table self.old)) self.old self.new }
     {
         Shape::from(self.shape()).check_lay(place, words)?;

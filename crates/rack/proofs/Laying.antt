@@ -20,7 +20,7 @@ use Rattle.rack.specs.Racks.{table_at, fits, racked, share, LaidShare}
 use Rattle.rack.proofs.Rows.{fit_table, fit_by_place, fits_few}
 use Rattle.rack.proofs.BaysOf.{shelf_part, shelf_bays, fit_set, width_set}
 
-module _ {S : Type 0} (f : S → Table) (P : S → Type 0) (xs : List S) (p : ℕ) (ws : List ℕ) where
+module _ {S : Type 0} (f : S → Table) (P : S → Type 0) (B : S → S → ℕ → List ℕ → Result ℕ Refusal → Type 0) (xs : List S) (p : ℕ) (ws : List ℕ) where
   abbrev s : Table
   s = racked (map f xs)
 
@@ -33,16 +33,13 @@ module _ {S : Type 0} (f : S → Table) (P : S → Type 0) (xs : List S) (p : �
 
   -- what shelf i did, by its state now
   abbrev DoneBy : List S → ℕ → ℕ → S → Type 0
-  DoneBy ys bits j d = LaidShare f P p w j ws bits (All P xs) (get_or xs j d) (get_or ys j d)
+  DoneBy ys bits j d = LaidShare f P B p w j ws bits (All P xs) (get_or xs j d) (get_or ys j d)
 
-  -- and as the code cuts them
-  pub lent : (i width : ℕ) (s0 s1 : S) (r : Result ℕ Refusal) → width ≡ w
-      → Outcome f P s0 s1 (refuses_lay p (take (i * width + width - i * width) (drop (i * width) ws))) (LayAnswer p (take (i * width + width - i * width) (drop (i * width) ws))) r
-      → Outcome f P s0 s1 (refuses_lay p (part_of i)) (LayAnswer p (part_of i)) r
-  lent i width s0 s1 r is h =
+  -- what holds of the words as the code cuts them
+  pub lent : (Q : List ℕ → Type 0) (i width : ℕ) → width ≡ w → Q (take (i * width + width - i * width) (drop (i * width) ws)) → Q (part_of i)
+  lent Q i width is h =
       let e : i * w + w - i * w ≡ w = omega arith in
-      subst (λ (vs : List ℕ). Outcome f P s0 s1 (refuses_lay p vs) (LayAnswer p vs) r)
-      (ap (λ n. take (i * n + n - i * n) (drop (i * n) ws)) is ∙ ap (λ n. take n (drop (i * w) ws)) e) h
+      subst Q (ap (λ n. take (i * n + n - i * n) (drop (i * n) ws)) is ∙ ap (λ n. take n (drop (i * w) ws)) e) h
 
   -- what is laid once i shelves are: as in a lay, but only of their bays
   record LaidTo (ys : List S) (i bits : ℕ) : Type 0 where
@@ -141,7 +138,7 @@ module _ {S : Type 0} (f : S → Table) (P : S → Type 0) (xs : List S) (p : �
         pub laying_fails : (e : Refusal) → r ≡ Err e → SameShape s (racked (map f (set ys i s1))) × Settled s (racked (map f (set ys i s1))) (All P xs) (All P (set ys i s1)) (refuses_lay p ws s) (LayAnswer p ws) (Err e)
         laying_fails e err = done _ _ _ _ _ _ _ none shape_after (λ each. absurd (subst (LayAnswer p (part_of i) (f s0) (f s1)) err (ordered each).1))
 
-      module _ (laid : ℕ) (lays : Outcome f P s0 s1 (refuses_lay p (part_of i)) (LayAnswer p (part_of i)) (Ok laid)) where
+      module _ (laid : ℕ) (lays : Outcome f P s0 s1 (refuses_lay p (part_of i)) (LayAnswer p (part_of i)) (Ok laid)) (bits_told : B s0 s1 p (part_of i) (Ok laid)) where
         abbrev t : Table
         t = racked (map f ys)
 
@@ -227,15 +224,15 @@ module _ {S : Type 0} (f : S → Table) (P : S → Type 0) (xs : List S) (p : �
         done_before : (j : ℕ) (d : S) → j < i → DoneBy (set ys i s1) all_bits j d
         done_before j d past =
             let before = laying.by_shelf j d past in
-            subst (λ s'. LaidShare f P p w j ws all_bits (All P xs) (get_or xs j d) s') (sym (get_or-set_other ys i j s1 d (omega arith)))
-            (record { own = before.own; laid = before.laid; stand = λ each x narrow. stand_before (told_by each) (new_by each) j x past narrow ∙ before.stand each x narrow })
+            subst (λ s'. LaidShare f P B p w j ws all_bits (All P xs) (get_or xs j d) s') (sym (get_or-set_other ys i j s1 d (omega arith)))
+            (record { own = before.own; laid = before.laid; told = before.told; stand = λ each x narrow. stand_before (told_by each) (new_by each) j x past narrow ∙ before.stand each x narrow })
 
         done_here : (d : S) → DoneBy (set ys i s1) all_bits i d
         done_here d =
             let start : get_or xs i d ≡ s0 = sym (laying.ahead i d (omega arith)) ∙ get_or_default ys i d s0 few' ∙ sym is in
-            subst (λ s'. LaidShare f P p w i ws all_bits (All P xs) (get_or xs i d) s') (sym (get_or-set_same ys i s1 d few'))
-            (subst (λ s'. LaidShare f P p w i ws all_bits (All P xs) s' s1) (sym start)
-            (record { own = laid; laid = lays; stand = λ each x narrow. stand_here (told_by each) (new_by each) x }))
+            subst (λ s'. LaidShare f P B p w i ws all_bits (All P xs) (get_or xs i d) s') (sym (get_or-set_same ys i s1 d few'))
+            (subst (λ s'. LaidShare f P B p w i ws all_bits (All P xs) s' s1) (sym start)
+            (record { own = laid; laid = lays; told = bits_told; stand = λ each x narrow. stand_here (told_by each) (new_by each) x }))
 
         pub laying_more : Laying (set ys i s1) (i + 1) (bit_or bits ((laid * 2 ^ (i * w)) % 4294967296))
         laying_more = record {

@@ -78,15 +78,16 @@ pub record Aside {S : Type 0} (f : S → Table) (bay : ℕ) (r r' : Rack S) : Ty
 abbrev pub share : ℕ → ℕ → List ℕ → List ℕ
 share w i ws = take w (drop (i * w) ws)
 
--- Shelf i lays its words, and its bits stand among the rack's from bit i * w on.
-pub record LaidShare {S : Type 0} (f : S → Table) (P : S → Type 0) (place w i : ℕ) (ws : List ℕ) (bits : ℕ) (in_order : Type 0) (s s' : S) : Type 0 where
+-- Shelf i lays its words, B tells of its bits, and they stand among the rack's from bit i * w on.
+pub record LaidShare {S : Type 0} (f : S → Table) (P : S → Type 0) (B : S → S → ℕ → List ℕ → Result ℕ Refusal → Type 0) (place w i : ℕ) (ws : List ℕ) (bits : ℕ) (in_order : Type 0) (s s' : S) : Type 0 where
   pub own : ℕ
   pub laid : Outcome f P s s' (refuses_lay place (share w i ws)) (LayAnswer place (share w i ws)) (Ok own)
+  pub told : B s s' place (share w i ws) (Ok own)
   pub stand : in_order → (x : ℕ) → x < w → bit bits (i * w + x) ≡ bit own x
 
 -- So do all shelves in a lay that answers bits.
-abbrev pub LaidByShelf : {S : Type 0} → (S → Table) → (S → Type 0) → ℕ → List ℕ → Rack S → Rack S → Result ℕ Refusal → Type 0
-LaidByShelf {S} f P place ws r r' (Ok bits) =
+abbrev pub LaidByShelf : {S : Type 0} → (S → Table) → (S → Type 0) → (S → S → ℕ → List ℕ → Result ℕ Refusal → Type 0) → Rack S → Rack S → ℕ → List ℕ → Result ℕ Refusal → Type 0
+LaidByShelf {S} f P B r r' place ws (Ok bits) =
     (length (vec_items r'.shelves) ≡ length (vec_items r.shelves))
-    × ((i : ℕ) (d : S) → i < length (vec_items r.shelves) → LaidShare f P place (width f r) i ws bits (EachInOrder P r) (slice_index_or (vec_items r.shelves) i d) (slice_index_or (vec_items r'.shelves) i d))
-LaidByShelf f P place ws r r' (Err e) = Unit {0}
+    × ((i : ℕ) (d : S) → i < length (vec_items r.shelves) → LaidShare f P B place (width f r) i ws bits (EachInOrder P r) (slice_index_or (vec_items r.shelves) i d) (slice_index_or (vec_items r'.shelves) i d))
+LaidByShelf f P B r r' place ws (Err e) = Unit {0}

@@ -86,6 +86,8 @@ impl<S: Shelf> Shelf for Rack<S> {
 
     ghost sound = { EachInOrder S.Shelf.sound };
 
+    ghost lay_bits = { LaidByShelf S.Shelf.table S.Shelf.sound S.Shelf.lay_bits };
+
     fn shape(&self) -> (usize, usize, u32) {
         let Some(first) = self.shelves.first() else {
             return (0, 0, 0);
@@ -116,7 +118,7 @@ impl<S: Shelf> Shelf for Rack<S> {
 
     fn lay(&mut self, place: usize, words: &[u32]) -> Result<u32, Refusal>
         ensures promised { Outcome (rack_table S.Shelf.table) (EachInOrder S.Shelf.sound) self.old self.new (refuses_lay place words.now) (LayAnswer place words.now) result }
-        ensures bits { LaidByShelf S.Shelf.table S.Shelf.sound place words.now self.old self.new result }
+        ensures bits { LaidByShelf S.Shelf.table S.Shelf.sound S.Shelf.lay_bits self.old self.new place words.now result }
         ensures refused { LeftAlone (refuses_lay place words.now (rack_table S.Shelf.table self.old)) self.old self.new }
     {
         Shape::from(self.shape()).check_lay(place, words)?;

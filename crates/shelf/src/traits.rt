@@ -1,5 +1,6 @@
 // The interfaces that shelves keep, and that everything above a shelf is proved against.
-ghost use Rattle.std.specs.Prelude.{ℕ};
+ghost use Rattle.std.specs.Prelude.{ℕ, List, Result};
+ghost use Rattle.shelf.specs.declared.refusal.Refusal.{Refusal};
 ghost use Rattle.shelf.specs.Table.{Table, Shaped};
 ghost use Rattle.shelf.specs.Calls.{Outcome, refuses_read, refuses_word, refuses_lay, refuses_exchange, Read, Written, LayAnswer, Patched, Exchanged, Clears};
 
@@ -16,6 +17,9 @@ pub trait Shelf {
     // The states in order: those from which the calls keep their promises. Each call leaves the state in order.
     ghost sound: { Self → Type 0 };
 
+    // What is known of the bits of a lay beyond that: by the states before and after it, the place, the words and the answer.
+    ghost lay_bits: { Self → Self → ℕ → List ℕ → Result ℕ Refusal → Type 0 };
+
     // Bays, places and limit. They never change.
     fn shape(&self) -> (usize, usize, u32)
         ensures { Shaped (table self.now) result };
@@ -30,7 +34,8 @@ pub trait Shelf {
 
     // One word for each bay at a place. Bit b of the answer is clear only where the cell of bay b is blank.
     fn lay(&mut self, place: usize, words: &[u32]) -> Result<u32, Refusal>
-        ensures { Outcome table sound self.old self.new (refuses_lay place words.now) (LayAnswer place words.now) result };
+        ensures promised { Outcome table sound self.old self.new (refuses_lay place words.now) (LayAnswer place words.now) result }
+        ensures bits { lay_bits self.old self.new place words.now result };
 }
 
 // A shelf whose cells can be set one by one, and whose devices can be exchanged.

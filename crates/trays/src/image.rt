@@ -78,6 +78,8 @@ impl<'a> Shelf for ImageTray<'a> {
 
     ghost sound = { InOrder };
 
+    ghost lay_bits = { λ before after place words answer. answer ≡ laying place words (image_table before) };
+
     fn shape(&self) -> (usize, usize, u32) {
         match image_count(self.bytes) {
             Some(count) => (1, usize::from(count), BYTE_LIMIT),

@@ -66,6 +66,8 @@ impl<'a> Shelf for Tray<'a> {
 
     ghost sound = { InOrder };
 
+    ghost lay_bits = { λ before after place words answer. answer ≡ laying place words (tray_table before) };
+
     fn shape(&self) -> (usize, usize, u32) {
         match self.check() {
             Ok(()) => (1, self.words.len(), self.limit),

@@ -1,4 +1,4 @@
-ghost use Rattle.layers.specs.Drills.{drill_table, HeldOrder};
+ghost use Rattle.layers.specs.Drills.{drill_table, HeldOrder, Masked};
 
 use crate::account::Account;
 use layers::Drill;
@@ -16,6 +16,8 @@ impl<S: Shelf> Shelf for Watched<S> {
     ghost table = { λ w. drill_table S.Shelf.table w.drill };
 
     ghost sound = { λ w. HeldOrder S.Shelf.sound w.drill };
+
+    ghost lay_bits = { λ w after. Masked S.Shelf.table S.Shelf.sound S.Shelf.lay_bits w.drill after.drill };
 
     fn shape(&self) -> (usize, usize, u32) {
         self.drill.shape()

@@ -20,9 +20,9 @@ returns-clause-promised g c =
     let below = c.in_ok-bits.bits in
     let bits = c.running_bits.result in
     let kept : (b : ℕ) → b < s.bays → bit bits b ≡ (not (f' b) && bit below b) = λ b i. c.running_bits.ensures.kept b (subst (λ n. b < n) (sym bays) i) in
-    done _ _ _ _ _ _ _ none (stop_shape f f' s s' c.lay.ensures.0) (λ h.
-    let k = when_done s s' (g.S.Shelf.sound d.shelf) (g.S.Shelf.sound c.lay.new.self) (refuses_lay p ws s) (LayAnswer p ws) (Ok below) none c.in_ok-bits.ensures h in (
+    done _ _ _ _ _ _ _ none (stop_shape f f' s s' c.lay.ensures.promised.0) (λ h.
+    let k = when_done s s' (g.S.Shelf.sound d.shelf) (g.S.Shelf.sound c.lay.new.self) (refuses_lay p ws s) (LayAnswer p ws) (Ok below) none c.in_ok-bits.ensures.promised h in (
       k.0,
-      stop_laid f f' s s' c.lay.ensures.0 (still_stopped d.schedule c.count.new.self c.count.ensures) p ws below bits
+      stop_laid f f' s s' c.lay.ensures.promised.0 (still_stopped d.schedule c.count.new.self c.count.ensures) p ws below bits
           (subst (λ n. bits < 2 ^ n) bays c.running_bits.ensures.others) kept k.1,
     ))

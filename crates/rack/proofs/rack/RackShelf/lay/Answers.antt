@@ -1,6 +1,7 @@
 use Rattle.std.proofs.Common.{◌+◌, ◌*◌, ◌%◌, ◌^◌, ◌<◌, map, length, set, Ok, Err, sym, refl, subst, arith}
 use lib.Bits.{bit_or}
 use Rattle.std.proofs.lemmas.Result.{err_from_is_err_and}
+use Rattle.shelf.specs.Calls.{Outcome, LayAnswer, refuses_lay}
 use Rattle.shelf.proofs.Settling.{tested_lay}
 use Rattle.rack.specs.Racks.{racked}
 use Rattle.rack.proofs.Laying.{Laying, lent, cut_within, laying_none, laying_more, laying_fails, laying_all, laid_by_shelf}
@@ -11,14 +12,14 @@ loop-i-init g c =
     let f = g.S.Shelf.table in
     let xs = c.args.self.now.shelves.items in
     let none = tested_lay (racked (map f xs)) _ _ c.shape.ensures c.from.ensures c.args.place c.args.words.now c.in_ok-check_lay.ensures in
-    laying_none f g.S.Shelf.sound xs c.args.place c.args.words.now none
+    laying_none f g.S.Shelf.sound g.S.Shelf.lay_bits xs c.args.place c.args.words.now none
 
 pub returns-clause-promised : goal.returns-clause-promised
 returns-clause-promised g c =
     let f = g.S.Shelf.table in
     let xs = c.args.self.now.shelves.items in
     let none = tested_lay (racked (map f xs)) _ _ c.shape.ensures c.from.ensures c.args.place c.args.words.now c.in_ok-check_lay.ensures in
-    laying_all f g.S.Shelf.sound xs c.args.place c.args.words.now none c.loop-i.self.shelves.items c.loop-i.i c.loop-i.bits c.loop-i.invariant
+    laying_all f g.S.Shelf.sound g.S.Shelf.lay_bits xs c.args.place c.args.words.now none c.loop-i.self.shelves.items c.loop-i.i c.loop-i.bits c.loop-i.invariant
     (omega (arith, c.loop-i-test.false, c.len-i-end.ensures, c.args.self.now.shelves.ok.0))
     (omega (arith, c.loop-i.auto.i-end, c.len-i-end.ensures, c.args.self.now.shelves.ok.0))
 
@@ -32,9 +33,10 @@ loop-i-preserved g c =
     let s1 = c.lay.new.self in
     let laid = c.in_ok-laid.laid in
     let width = c.shelf_bays-width.result in
-    let lays = lent f g.S.Shelf.sound xs c.args.place c.args.words.now c.loop-i.i width s0 s1 (Ok laid) c.shelf_bays-width.ensures c.in_ok-laid.ensures in
-    subst (λ v. Laying f g.S.Shelf.sound xs c.args.place c.args.words.now (set c.loop-i.self.shelves.items c.loop-i.i s1) (c.loop-i.i + 1) (bit_or c.loop-i.bits ((laid * 2 ^ (c.loop-i.i * v)) % 4294967296))) (sym c.shelf_bays-width.ensures)
-    (laying_more f g.S.Shelf.sound xs c.args.place c.args.words.now none c.loop-i.self.shelves.items c.loop-i.i c.loop-i.bits c.loop-i.invariant few s0 s1 c.index_mut.ensures.value laid lays)
+    let lays = lent f g.S.Shelf.sound g.S.Shelf.lay_bits xs c.args.place c.args.words.now (λ vs. Outcome f g.S.Shelf.sound s0 s1 (refuses_lay c.args.place vs) (LayAnswer c.args.place vs) (Ok laid)) c.loop-i.i width c.shelf_bays-width.ensures c.in_ok-laid.ensures.promised in
+    let told = lent f g.S.Shelf.sound g.S.Shelf.lay_bits xs c.args.place c.args.words.now (λ vs. g.S.Shelf.lay_bits s0 s1 c.args.place vs (Ok laid)) c.loop-i.i width c.shelf_bays-width.ensures c.in_ok-laid.ensures.bits in
+    subst (λ v. Laying f g.S.Shelf.sound g.S.Shelf.lay_bits xs c.args.place c.args.words.now (set c.loop-i.self.shelves.items c.loop-i.i s1) (c.loop-i.i + 1) (bit_or c.loop-i.bits ((laid * 2 ^ (c.loop-i.i * v)) % 4294967296))) (sym c.shelf_bays-width.ensures)
+    (laying_more f g.S.Shelf.sound g.S.Shelf.lay_bits xs c.args.place c.args.words.now none c.loop-i.self.shelves.items c.loop-i.i c.loop-i.bits c.loop-i.invariant few s0 s1 c.index_mut.ensures.value laid lays told)
 
 pub returns-in_err-laid-clause-promised : goal.returns-in_err-laid-clause-promised
 returns-in_err-laid-clause-promised g c =
@@ -45,10 +47,10 @@ returns-in_err-laid-clause-promised g c =
     let s0 = c.index_mut.result.now in
     let s1 = c.lay.new.self in
     let e = c.in_err-laid.field-0.0 in
-    let lays = lent f g.S.Shelf.sound xs c.args.place c.args.words.now c.loop-i.i c.shelf_bays-width.result s0 s1 (Err e) c.shelf_bays-width.ensures c.in_err-laid.ensures in
+    let lays = lent f g.S.Shelf.sound g.S.Shelf.lay_bits xs c.args.place c.args.words.now (λ vs. Outcome f g.S.Shelf.sound s0 s1 (refuses_lay c.args.place vs) (LayAnswer c.args.place vs) (Err e)) c.loop-i.i c.shelf_bays-width.result c.shelf_bays-width.ensures c.in_err-laid.ensures.promised in
     let q = err_from_is_err_and c.from_residual-in_err-laid.result c.from_residual-in_err-laid.ensures.1 in
     rw (q.1, q.2)
-    (laying_fails f g.S.Shelf.sound xs c.args.place c.args.words.now none c.loop-i.self.shelves.items c.loop-i.i c.loop-i.bits c.loop-i.invariant few s0 s1 c.index_mut.ensures.value (Err e) lays e refl)
+    (laying_fails f g.S.Shelf.sound g.S.Shelf.lay_bits xs c.args.place c.args.words.now none c.loop-i.self.shelves.items c.loop-i.i c.loop-i.bits c.loop-i.invariant few s0 s1 c.index_mut.ensures.value (Err e) lays e refl)
 
 pub overflow_mul-low : goal.overflow_mul-low
 overflow_mul-low g c =
@@ -56,7 +58,7 @@ overflow_mul-low g c =
     let xs = c.args.self.now.shelves.items in
     let none = tested_lay (racked (map f xs)) _ _ c.shape.ensures c.from.ensures c.args.place c.args.words.now c.in_ok-check_lay.ensures in
     let few : c.loop-i.i < length xs = omega (arith, c.loop-i-test.true, c.len-i-end.ensures, c.args.self.now.shelves.ok.0) in
-    let low = cut_within f g.S.Shelf.sound xs c.args.place c.args.words.now none c.loop-i.i c.shelf_bays-width.result few c.shelf_bays-width.ensures in
+    let low = cut_within f g.S.Shelf.sound g.S.Shelf.lay_bits xs c.args.place c.args.words.now none c.loop-i.i c.shelf_bays-width.result few c.shelf_bays-width.ensures in
     omega (arith, low)
 
 pub index_mut-requires : goal.index_mut-requires
@@ -74,7 +76,7 @@ overflow_add-low g c =
     let xs = c.args.self.now.shelves.items in
     let none = tested_lay (racked (map f xs)) _ _ c.shape.ensures c.from.ensures c.args.place c.args.words.now c.in_ok-check_lay.ensures in
     let few : c.loop-i.i < length xs = omega (arith, c.loop-i-test.true, c.len-i-end.ensures, c.args.self.now.shelves.ok.0) in
-    let low = cut_within f g.S.Shelf.sound xs c.args.place c.args.words.now none c.loop-i.i c.shelf_bays-width.result few c.shelf_bays-width.ensures in
+    let low = cut_within f g.S.Shelf.sound g.S.Shelf.lay_bits xs c.args.place c.args.words.now none c.loop-i.i c.shelf_bays-width.result few c.shelf_bays-width.ensures in
     omega (arith, low)
 
 pub offset_bounds-words-low : goal.offset_bounds-words-low
@@ -83,7 +85,7 @@ offset_bounds-words-low g c =
     let xs = c.args.self.now.shelves.items in
     let none = tested_lay (racked (map f xs)) _ _ c.shape.ensures c.from.ensures c.args.place c.args.words.now c.in_ok-check_lay.ensures in
     let few : c.loop-i.i < length xs = omega (arith, c.loop-i-test.true, c.len-i-end.ensures, c.args.self.now.shelves.ok.0) in
-    let low = cut_within f g.S.Shelf.sound xs c.args.place c.args.words.now none c.loop-i.i c.shelf_bays-width.result few c.shelf_bays-width.ensures in
+    let low = cut_within f g.S.Shelf.sound g.S.Shelf.lay_bits xs c.args.place c.args.words.now none c.loop-i.i c.shelf_bays-width.result few c.shelf_bays-width.ensures in
     omega (arith, low)
 
 pub slice_bounds-lay-end : goal.slice_bounds-lay-end
@@ -92,7 +94,7 @@ slice_bounds-lay-end g c =
     let xs = c.args.self.now.shelves.items in
     let none = tested_lay (racked (map f xs)) _ _ c.shape.ensures c.from.ensures c.args.place c.args.words.now c.in_ok-check_lay.ensures in
     let few : c.loop-i.i < length xs = omega (arith, c.loop-i-test.true, c.len-i-end.ensures, c.args.self.now.shelves.ok.0) in
-    let low = cut_within f g.S.Shelf.sound xs c.args.place c.args.words.now none c.loop-i.i c.shelf_bays-width.result few c.shelf_bays-width.ensures in
+    let low = cut_within f g.S.Shelf.sound g.S.Shelf.lay_bits xs c.args.place c.args.words.now none c.loop-i.i c.shelf_bays-width.result few c.shelf_bays-width.ensures in
     omega (arith, low)
 
 pub returns-clause-bits : goal.returns-clause-bits
@@ -100,5 +102,5 @@ returns-clause-bits g c =
     let f = g.S.Shelf.table in
     let xs = c.args.self.now.shelves.items in
     let none = tested_lay (racked (map f xs)) _ _ c.shape.ensures c.from.ensures c.args.place c.args.words.now c.in_ok-check_lay.ensures in
-    laid_by_shelf f g.S.Shelf.sound xs c.args.place c.args.words.now none c.loop-i.self.shelves.items c.loop-i.i c.loop-i.bits c.loop-i.invariant
+    laid_by_shelf f g.S.Shelf.sound g.S.Shelf.lay_bits xs c.args.place c.args.words.now none c.loop-i.self.shelves.items c.loop-i.i c.loop-i.bits c.loop-i.invariant
     (omega (arith, c.loop-i-test.false, c.len-i-end.ensures, c.args.self.now.shelves.ok.0))
