@@ -1,3 +1,4 @@
 pub mod Changes
 pub mod Findings
 pub mod Standings
+pub mod Tallies

@@ -29,10 +29,10 @@ pub enum Change {
     // What the mends of a sweep answered, counted.
     Swept {
         bay: usize,
-        whole: u32,
-        mended: u32,
-        lost: u32,
-        stopped: u32,
+        whole: usize,
+        mended: usize,
+        lost: usize,
+        stopped: usize,
     },
     // How many images were written.
     Images {

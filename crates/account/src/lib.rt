@@ -4,7 +4,9 @@
 mod change;
 mod finding;
 mod standing;
+mod tally;
 
 pub use crate::change::Change;
 pub use crate::finding::Finding;
 pub use crate::standing::Standing;
+pub use crate::tally::Tally;

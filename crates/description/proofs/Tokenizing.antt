@@ -32,7 +32,7 @@ one_more : (c d : ℕ) (s : List ℕ) → blank c ≡ false → blank d ≡ fals
 one_more c d s h k = rw (h, k) refl
 
 -- a token ends where the text behind it begins with a blank, or is empty
-one_token : (t r : List ℕ) → IsToken t → apart r ≡ true → tokens (t ++ r) ≡ t ∷ tokens r
+pub one_token : (t r : List ℕ) → IsToken t → apart r ≡ true → tokens (t ++ r) ≡ t ∷ tokens r
 one_token [] r h e = absurd (omega (arith, h.0))
 one_token (c ∷ []) r h e = let s = and_parts _ _ h.1 in rw (not-true (blank c) s.0, e) refl
 one_token (c ∷ d ∷ t) r h e =

@@ -1,11 +1,9 @@
 // Single cells of an archive, and the list of the lost ones.
-use crate::archive::Archive;
-use crate::field_kind::FieldKind;
-use crate::part::Part;
 use account::{Change, Finding};
 use anyhow::anyhow;
 use orders::Run;
 use shelf::{LostCell, Refusal, Shape, Shelf, survey};
+use storage::{Archive, FieldKind, Part};
 
 // What is said of a call that is refused.
 pub(crate) fn refused(refusal: Refusal) -> anyhow::Error {

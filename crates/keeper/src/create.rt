@@ -1,12 +1,9 @@
 // The blank images of a new archive.
-use crate::field_kind::{FieldKind, plan_of};
-use crate::filing::{Filing, is_there};
-use crate::image::image_bytes;
-use crate::text::text_of;
 use account::Change;
 use anyhow::{Context, bail};
 use description::{Below, Description};
 use plan::Plan;
+use storage::{FieldKind, Filing, fit_places, image_bytes, is_there, plan_of, text_of};
 use trays::blank_words;
 
 // Writes aside a blank image for each path, where there is no file yet.
@@ -44,8 +41,9 @@ pub(crate) fn create<F: FieldKind>(
             paths.len()
         );
     }
+    let fit = fit_places(path, description)?;
     let mut filing = Filing::new(rt.alloc());
-    match write_blank::<F>(rt, paths, description.places as usize, &mut filing) {
+    match write_blank::<F>(rt, paths, fit, &mut filing) {
         Ok(()) => filing.finish(rt, path)?,
         Err(e) => {
             filing.remove(rt);

@@ -1,13 +1,10 @@
 // The bytes of a file over the data bays of an archive.
-use crate::archive::Archive;
 use crate::cells::refused;
-use crate::field_kind::FieldKind;
-use crate::filing::{Filing, is_there};
-use crate::part::Part;
 use account::{Change, Finding};
 use anyhow::{anyhow, bail};
 use packing::{file_words, length_words, pack, unpack};
 use shelf::{Refusal, Shape, Shelf};
+use storage::{Archive, FieldKind, Filing, Part, is_there};
 
 // How many places so many words take, with so many at each.
 fn places_for(words: usize, bays: usize) -> usize {

@@ -1,22 +1,10 @@
 // Fresh devices in the bays below an archive, and what mends them.
-use crate::archive::Archive;
-use crate::field_kind::FieldKind;
-use crate::origin::Origin;
-use crate::part::Part;
-use account::Change;
+use account::{Change, Tally};
 use shelf::{Shape, Shelf};
+use storage::{Archive, FieldKind, Origin, Part};
 
 // How many places are swept between two words of progress.
 const STEP: usize = 4096;
-
-// What the mends of a sweep answered.
-#[derive(Clone, Copy)]
-struct Tally {
-    whole: u32,
-    mended: u32,
-    lost: u32,
-    stopped: u32,
-}
 
 // Puts a fresh device in a bay below. Its image is written anew, whatever was there.
 pub(crate) fn exchange<F: FieldKind, S: Part<F>>(
@@ -31,19 +19,6 @@ pub(crate) fn exchange<F: FieldKind, S: Part<F>>(
     Ok(Change::Exchanged { bay })
 }
 
-// Counts the answers of mends by their numbers.
-fn count_answers(answers: &[u8], mut counts: Tally) -> Tally {
-    for answer in answers {
-        match *answer {
-            0 => counts.whole = counts.whole.saturating_add(1),
-            1 => counts.mended = counts.mended.saturating_add(1),
-            6 => counts.stopped = counts.stopped.saturating_add(1),
-            _ => counts.lost = counts.lost.saturating_add(1),
-        }
-    }
-    counts
-}
-
 // Sweeps a bay below over all places, and says on standard error how far it is.
 fn sweep_bay<F: FieldKind, S: Part<F>>(
     rt: &HostRuntime,
@@ -52,16 +27,11 @@ fn sweep_bay<F: FieldKind, S: Part<F>>(
 ) -> anyhow::Result<Change> {
     let Shape { places, .. } = archive.shape();
     let mut answers = vec![in rt.alloc(); 0u8; STEP]?;
-    let mut counts = Tally {
-        whole: 0,
-        mended: 0,
-        lost: 0,
-        stopped: 0,
-    };
+    let mut counts = Tally::new();
     for first in (0..places).step_by(STEP) {
         let count = STEP.min(places - first);
         S::sweep(&mut archive.array, bay, first, &mut answers[..count]).map_err(|e| e.error(bay))?;
-        counts = count_answers(&answers[..count], counts);
+        counts = counts.and(&answers[..count]);
         if places > STEP {
             eprintln!(rt; "bay {bay}: swept {} of {places} places", first + count)?;
         }

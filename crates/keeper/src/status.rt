@@ -1,8 +1,4 @@
 // How an archive stands: which bays run, what is filled, told and lost, and what a further loss would cost.
-use crate::archive::Archive;
-use crate::field_kind::FieldKind;
-use crate::origin::Origin;
-use crate::part::Part;
 use account::Standing;
 use linear::told_bays;
 use plan::{AnyPlan, Plan};
@@ -10,6 +6,7 @@ use rack::Rack;
 use shelf::{Shape, Shelf, bit};
 use std::alloc::Global;
 use std::collections::BTreeMap;
+use storage::{Archive, FieldKind, Origin, Part};
 
 // What stands below an archive, counted.
 #[derive(Drop)]

@@ -1,12 +1,10 @@
 // The table of an archive: laid from a text, and printed.
-use crate::archive::Archive;
 use crate::cells::{refused_run, run_of};
-use crate::field_kind::FieldKind;
-use crate::part::Part;
 use account::Change;
 use anyhow::{anyhow, bail};
 use orders::Run;
 use shelf::{Refusal, Shape, Shelf, fetch};
+use storage::{Archive, FieldKind, Part};
 use tables::{Cell, Line, Row, Totals, read_row};
 
 // What was laid: how many places, and at how many of them not every cell can be read back.

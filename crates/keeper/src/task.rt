@@ -1,16 +1,10 @@
 // Tasks on an archive, whatever its field and however deep it is.
-use crate::archive::{Archive, described, first_described, open_described};
 use crate::cells::{list_lost, read, write};
 use crate::create::create;
-use crate::field_kind::FieldKind;
 use crate::files::{get, put};
-use crate::filing::finish_left;
-use crate::part::{Part, Row};
-use crate::saving::save;
 use crate::service::{exchange, sweep};
 use crate::status::{print_status, print_verdicts};
 use crate::table::{lay, print_table};
-use crate::text::text_of;
 use account::Change;
 use anyhow::{Context, anyhow, bail};
 use command::FieldName;
@@ -20,6 +14,10 @@ use field::{Byte, Count, Nibble};
 use orders::Task;
 use std::fs;
 use std::io::Read;
+use storage::{
+    Archive, FieldKind, Part, Row, described, finish_left, first_described, open_described, save,
+    text_of,
+};
 
 // Whether a task may read standard input.
 #[derive(Clone, Copy, Debug, PartialEq, Eq)]

@@ -8,25 +8,18 @@ use orders::{Order, read_order};
 use rehearsal::take_script;
 use script::Script;
 use std::io::{BufRead, BufReader};
-use std::{env, fs, str};
+use std::{env, fs};
+use storage::text_of;
 
 // What is said of a command that can't be read.
 fn unread(fault: Fault) -> anyhow::Error {
     anyhow!("{fault}; `raskold help` lists the commands")
 }
 
-// The text of a path.
-fn text_of<'a>(path: &'a [u8]) -> anyhow::Result<&'a str> {
-    match str::from_utf8(path) {
-        Ok(text) => Ok(text),
-        Err(_) => bail!("the path is not in UTF-8"),
-    }
-}
-
 // The bytes of a file.
 fn read_file(rt: &HostRuntime, path: &[u8]) -> anyhow::Result<Vec<u8>> {
-    let name = text_of(path)?;
-    Ok(fs::read(rt, name).context(format_args!("{name} can't be read"))?)
+    let name = text_of(rt.alloc(), path)?;
+    Ok(fs::read(rt, &name).context(format_args!("{name} can't be read"))?)
 }
 
 // Carries out a command that is no script.

@@ -7,7 +7,7 @@ use crate::part::{Part, Row};
 use disk::all_torn;
 
 // Writes aside the parts of a row that changed.
-pub(crate) fn save_parts<F: FieldKind, S: Part<F>>(
+pub fn save_parts<F: FieldKind, S: Part<F>>(
     rt: &HostRuntime,
     array: Row<F, S>,
     inner: &Inner,
@@ -24,7 +24,7 @@ pub(crate) fn save_parts<F: FieldKind, S: Part<F>>(
 
 // Saves an archive: every image that changed is written aside, and only then are they renamed, bay after bay. Answers how many there
 // were.
-pub(crate) fn save<F: FieldKind, S: Part<F>>(
+pub fn save<F: FieldKind, S: Part<F>>(
     rt: &HostRuntime,
     archive: Archive<F, S>,
 ) -> anyhow::Result<usize> {

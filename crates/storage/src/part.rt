@@ -14,11 +14,11 @@ use rack::Rack;
 use shelf::{Clearable, Refusal};
 
 // An array over a row of parts.
-pub(crate) type Row<F, S> = Array<Rack<S>, AnyPlan<F>>;
+pub type Row<F, S> = Array<Rack<S>, AnyPlan<F>>;
 
 // Why a bay below an archive was not serviced.
 #[derive(Clone, Copy, Debug, PartialEq, Eq)]
-pub(crate) enum NotServed {
+pub enum NotServed {
     // The bays below are those of archives, which are serviced by their own descriptions.
     Archives,
     // The call is refused.
@@ -27,7 +27,7 @@ pub(crate) enum NotServed {
 
 impl NotServed {
     // What is said of it, of a bay below.
-    pub(crate) fn error(self, bay: usize) -> anyhow::Error {
+    pub fn error(self, bay: usize) -> anyhow::Error {
         match self {
             NotServed::Archives => {
                 anyhow!("the bays below are those of archives: service each by its own description")
@@ -41,7 +41,7 @@ impl NotServed {
 }
 
 // What the row below an archive is made of: disks, or other archives.
-pub(crate) trait Part<F: FieldKind>: Clearable + Drop + Sized {
+pub trait Part<F: FieldKind>: Clearable + Drop + Sized {
     // The paths of the parts that a description names.
     fn paths(description: &Description) -> anyhow::Result<&[Vec<u8>]>;
 

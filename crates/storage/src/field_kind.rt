@@ -114,7 +114,7 @@ fn table_of(heap: Global, rows: &[Vec<u32>]) -> anyhow::Result<Vec<u32>> {
 }
 
 // The plan of a description.
-pub(crate) fn plan_of<F: FieldKind>(
+pub fn plan_of<F: FieldKind>(
     heap: Global,
     description: &Description,
 ) -> anyhow::Result<AnyPlan<F>> {

@@ -13,25 +13,25 @@ use std::fs;
 
 // The array, where its parts came from, and which of its places were torn when it was opened.
 #[derive(Drop)]
-pub(crate) struct Archive<F, S> {
-    pub(crate) array: Row<F, S>,
-    pub(crate) inner: Inner,
+pub struct Archive<F, S> {
+    pub array: Row<F, S>,
+    pub inner: Inner,
 }
 
 impl<F: FieldKind, S: Part<F>> Archive<F, S> {
     // How many data bays and places it has.
-    pub(crate) fn shape(&self) -> Shape {
+    pub fn shape(&self) -> Shape {
         Shape::from(self.array.shape())
     }
 
     // Whether a place was torn when the archive was opened.
-    pub(crate) fn is_torn(&self, place: usize) -> bool {
+    pub fn is_torn(&self, place: usize) -> bool {
         self.inner.torn.get(place).copied().unwrap_or(false)
     }
 }
 
 // The description at a path.
-pub(crate) fn described(rt: &HostRuntime, path: &str) -> anyhow::Result<Description> {
+pub fn described(rt: &HostRuntime, path: &str) -> anyhow::Result<Description> {
     let text = fs::read(rt, path).context(format_args!("{path} can't be read"))?;
     match read_description(rt.alloc(), &text) {
         Ok(description) => Ok(description),
@@ -40,7 +40,7 @@ pub(crate) fn described(rt: &HostRuntime, path: &str) -> anyhow::Result<Descript
 }
 
 // The first of the paths that has a description.
-pub(crate) fn first_described<'a>(rt: &HostRuntime, paths: &'a [Vec<u8>]) -> Option<&'a [u8]> {
+pub fn first_described<'a>(rt: &HostRuntime, paths: &'a [Vec<u8>]) -> Option<&'a [u8]> {
     for path in paths {
         if let Ok(text) = text_of(rt.alloc(), path) {
             if described(rt, &text).is_ok() {
@@ -83,17 +83,23 @@ fn open_parts<F: FieldKind, S: Part<F>>(
     Ok((shelves, origins))
 }
 
+// The places of a description, where they are 1 to 65,536.
+pub fn fit_places(path: &str, description: &Description) -> anyhow::Result<usize> {
+    let places = description.places as usize;
+    if !(1..=MOST_PLACES).contains(&places) {
+        bail!("{path}: an archive has 1 to {MOST_PLACES} places");
+    }
+    Ok(places)
+}
+
 // Opens the archive of a description that was read at a path: its parts, and then every place is tested.
-pub(crate) fn open_described<F: FieldKind, S: Part<F>>(
+pub fn open_described<F: FieldKind, S: Part<F>>(
     rt: &HostRuntime,
     path: String,
     description: &Description,
 ) -> anyhow::Result<Archive<F, S>> {
     let plan = plan_of::<F>(rt.alloc(), description).context(format_args!("{path}"))?;
-    let places = description.places as usize;
-    if !(1..=MOST_PLACES).contains(&places) {
-        bail!("{path}: an archive has 1 to {MOST_PLACES} places");
-    }
+    let places = fit_places(&path, description)?;
     let (shelves, origins) = open_parts::<F, S>(rt, S::paths(description)?, places)?;
     let bays = plan.data_bays() + plan.check_bays();
     let rack = Rack::new(shelves);

@@ -2,23 +2,15 @@
 // and what a crash leaves undone of it is done at the next opening.
 use crate::text::text_of;
 use anyhow::Context;
-use std::alloc::{AllocError, Global};
+use command::Cursor;
+use journal::{aside_of, list_of, list_text};
+use std::alloc::Global;
 use std::fs;
 
 // The files that are written aside, by the paths that they are to have, in the order in which they are to be renamed.
 #[derive(Drop)]
-pub(crate) struct Filing {
+pub struct Filing {
     paths: Vec<String>,
-}
-
-// The path of a file that is written aside.
-fn aside_of(heap: Global, path: &str) -> Result<String, AllocError> {
-    format!(in heap; "{path}.new")
-}
-
-// The path of the list of an archive.
-fn list_of(heap: Global, archive: &str) -> Result<String, AllocError> {
-    format!(in heap; "{archive}.changing")
 }
 
 // Renames a file that was written aside. One that is not there was renamed before.
@@ -31,24 +23,19 @@ fn rename_aside(rt: &HostRuntime, path: &str) -> anyhow::Result<()> {
 }
 
 impl Filing {
-    pub(crate) fn new(heap: Global) -> Filing {
+    pub fn new(heap: Global) -> Filing {
         Filing {
             paths: Vec::new(heap),
         }
     }
 
     // How many files there are.
-    pub(crate) fn count(&self) -> usize {
+    pub fn count(&self) -> usize {
         self.paths.len()
     }
 
     // Writes a file aside.
-    pub(crate) fn write(
-        &mut self,
-        rt: &HostRuntime,
-        path: &str,
-        bytes: &[u8],
-    ) -> anyhow::Result<()> {
+    pub fn write(&mut self, rt: &HostRuntime, path: &str, bytes: &[u8]) -> anyhow::Result<()> {
         let aside = aside_of(rt.alloc(), path)?;
         // It is listed before it is written, so that what was begun is removed where the write fails.
         self.paths.push(path.to_string(rt.alloc())?)?;
@@ -57,16 +44,12 @@ impl Filing {
     }
 
     // Makes the change of an archive: puts down the list, renames the files in turn, and removes the list.
-    pub(crate) fn finish(&self, rt: &HostRuntime, archive: &str) -> anyhow::Result<()> {
+    pub fn finish(&self, rt: &HostRuntime, archive: &str) -> anyhow::Result<()> {
         if self.paths.is_empty() {
             return Ok(());
         }
         let list = list_of(rt.alloc(), archive)?;
-        let mut text = String::new(rt.alloc());
-        for path in self.paths.iter() {
-            text.push_str(path)?;
-            text.push('\n')?;
-        }
+        let text = list_text(rt.alloc(), &self.paths)?;
         let aside = aside_of(rt.alloc(), &list)?;
         fs::write(rt, &aside, &text).context(format_args!("{aside} can't be written"))?;
         fs::rename(rt, &aside, &list).context(format_args!("{list} can't be written"))?;
@@ -78,7 +61,7 @@ impl Filing {
     }
 
     // Removes what was written aside, as where not all could be.
-    pub(crate) fn remove(&self, rt: &HostRuntime) {
+    pub fn remove(&self, rt: &HostRuntime) {
         for path in self.paths.iter() {
             if let Ok(aside) = aside_of(rt.alloc(), path) {
                 // What can't be removed is left: the next write replaces it.
@@ -91,10 +74,7 @@ impl Filing {
 // Renames the files of a list. Answers how many could not be.
 fn rename_listed(rt: &HostRuntime, text: &[u8]) -> anyhow::Result<usize> {
     let mut left: usize = 0;
-    for path in text.split(|byte| *byte == b'\n') {
-        if path.is_empty() {
-            continue;
-        }
+    for path in Cursor::new(text) {
         if rename_aside(rt, &text_of(rt.alloc(), path)?).is_err() {
             left = left.saturating_add(1);
         }
@@ -103,7 +83,7 @@ fn rename_listed(rt: &HostRuntime, text: &[u8]) -> anyhow::Result<usize> {
 }
 
 // Finishes a change of an archive that a crash left undone. Where a file can't be renamed now, the list stays for the next time.
-pub(crate) fn finish_left(rt: &HostRuntime, archive: &str) -> anyhow::Result<()> {
+pub fn finish_left(rt: &HostRuntime, archive: &str) -> anyhow::Result<()> {
     let list = list_of(rt.alloc(), archive)?;
     if !is_there(rt, &list) {
         return Ok(());
@@ -120,6 +100,6 @@ pub(crate) fn finish_left(rt: &HostRuntime, archive: &str) -> anyhow::Result<()>
 }
 
 // Whether there is a file at a path.
-pub(crate) fn is_there(rt: &HostRuntime, path: &str) -> bool {
+pub fn is_there(rt: &HostRuntime, path: &str) -> bool {
     fs::metadata(rt, path).is_ok()
 }

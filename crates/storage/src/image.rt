@@ -29,7 +29,7 @@ fn image_words(
 }
 
 // A stopped disk, whose cells are blank, since its image has this trouble.
-pub(crate) fn stopped_disk<F: FieldKind>(
+pub fn stopped_disk<F: FieldKind>(
     rt: &HostRuntime,
     path: String,
     places: usize,
@@ -45,7 +45,7 @@ pub(crate) fn stopped_disk<F: FieldKind>(
 }
 
 // The disk with its image at a path. One without an image is stopped, and its cells are blank.
-pub(crate) fn open_disk<F: FieldKind>(
+pub fn open_disk<F: FieldKind>(
     rt: &HostRuntime,
     path: &[u8],
     places: usize,
@@ -67,10 +67,7 @@ pub(crate) fn open_disk<F: FieldKind>(
 }
 
 // The bytes of an image with these words.
-pub(crate) fn image_bytes<F: FieldKind>(
-    rt: &HostRuntime,
-    words: &[u32],
-) -> anyhow::Result<Vec<u8>> {
+pub fn image_bytes<F: FieldKind>(rt: &HostRuntime, words: &[u32]) -> anyhow::Result<Vec<u8>> {
     match write_image(rt.alloc(), F::format(), words) {
         Ok(bytes) => Ok(bytes),
         Err(fault) => Err(anyhow!("{fault}")),

@@ -4,7 +4,7 @@ use std::alloc::Global;
 use std::str;
 
 // The text of a path.
-pub(crate) fn text_of(heap: Global, path: &[u8]) -> anyhow::Result<String> {
+pub fn text_of(heap: Global, path: &[u8]) -> anyhow::Result<String> {
     match str::from_utf8(path) {
         Ok(text) => Ok(text.to_string(heap)?),
         Err(_) => {
