@@ -109,34 +109,24 @@ fn cells<S: Shelf>(shelf: &mut S) -> [Option<u32>; 4] {
 }
 
 // Makes the calls of a shelf, and reads its cells again after each.
-pub fn refused<S: Shelf>(
-    rt: &HostRuntime,
-    log: &mut Log,
-    of: &str,
-    shelf: &mut S,
-) -> io::Result<()> {
+pub fn refused<S: Shelf>(log: &mut Log, shelf: &mut S) -> io::Result<()> {
     let before = cells(shelf);
     for (what, expected, attempt) in ATTEMPTS.iter() {
         let found = attempt.on(shelf);
         let same = cells(shelf) == before;
-        log.tell(rt, of, what, Some(*expected), found, same)?;
+        log.tell(what, Some(*expected), found, same)?;
     }
     Ok(())
 }
 
 // The same with the calls of a serviceable shelf.
-pub fn services_refused<S: Serviceable>(
-    rt: &HostRuntime,
-    log: &mut Log,
-    of: &str,
-    shelf: &mut S,
-) -> io::Result<()> {
-    refused(rt, log, of, shelf)?;
+pub fn services_refused<S: Serviceable>(log: &mut Log, shelf: &mut S) -> io::Result<()> {
+    refused(log, shelf)?;
     let before = cells(shelf);
     for (what, expected, service) in SERVICES.iter() {
         let found = service.on(shelf);
         let same = cells(shelf) == before;
-        log.tell(rt, of, what, Some(*expected), found, same)?;
+        log.tell(what, Some(*expected), found, same)?;
     }
     Ok(())
 }

@@ -32,6 +32,9 @@ pub fn make<P: Pile>(pile: P, trial: &mut Trial) -> P {
     for _ in 0..TURNS {
         pile = turn(pile, trial);
     }
+    for place in 0..trial.places {
+        trial.judge_place(place, &view(&pile, place));
+    }
     pile
 }
 
@@ -183,16 +186,21 @@ fn records_agree<P: Pile>(pile: &P, trial: &Trial, first: usize, list: &[LostCel
     })
 }
 
+// How long the list of a survey is: mostly long enough.
+fn list_room(trial: &mut Trial) -> usize {
+    if trial.generator.chance(20) {
+        trial.generator.index(4)
+    } else {
+        CELLS
+    }
+}
+
 fn survey_some<P: Pile>(pile: &mut P, trial: &mut Trial) {
     let (first, count) = (
         trial.index(trial.places),
         trial.generator.index(trial.places),
     );
-    let room = if trial.generator.chance(20) {
-        trial.generator.index(4)
-    } else {
-        CELLS
-    };
+    let room = list_room(trial).min(CELLS);
     let mut list = [NO_CELL; CELLS];
     let before = open_cells(pile, trial, first, count);
     let answer = survey(pile, first, count, &mut list[..room]);

@@ -20,7 +20,7 @@ use std::alloc::{AllocError, Global};
 use trays::{ImageTray, Tray, blank_image, blank_words};
 
 // How many histories there are on each kind of pile, in each field.
-const HISTORIES: u64 = 300;
+const HISTORIES: u64 = 500;
 
 // A plain plan and its kind.
 #[derive(Clone, Copy)]

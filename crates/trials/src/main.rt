@@ -27,13 +27,13 @@ use crate::log::Log;
 use anyhow::ensure;
 
 fn main(rt: HostRuntime) -> anyhow::Result<()> {
-    let mut log = Log::new();
-    makings::trays(&rt, &mut log)?;
-    makings::images(&rt, &mut log)?;
-    makings::plans(&rt, &mut log)?;
-    makings::events(&rt, &mut log)?;
-    refusals::show(&rt, &mut log)?;
-    log.end(&rt)?;
+    let mut log = Log::new(&rt);
+    makings::trays(&mut log)?;
+    makings::images(&mut log)?;
+    makings::plans(&mut log)?;
+    makings::events(&mut log)?;
+    refusals::show(&mut log)?;
+    log.end()?;
     let tally = histories::all(rt.alloc())?;
     tally.print(&rt)?;
     let wrong = tally.wrong().saturating_add(log.wrong());

@@ -1,5 +1,5 @@
 // What is refused where shelves and plans are made.
-use crate::log::Log;
+use crate::log::{Log, Subject};
 use field::{Byte, Count, Nibble};
 use layers::Drill;
 use plan::{Groups, Powers, Refusal, Written};
@@ -25,7 +25,6 @@ fn number<P: Drop>(made: Result<P, Refusal>) -> Option<u32> {
 
 // A tray over so many words with this limit: what its check answers, and whether an unfit one has no bay and a fit one has its own shape.
 fn tray(
-    rt: &HostRuntime,
     log: &mut Log,
     what: &str,
     words: &mut [u32],
@@ -39,35 +38,23 @@ fn tray(
         Some(_) => (0, 0, 16),
     };
     let same = tray.shape() == shape;
-    log.tell(rt, "tray", what, expected, misfit(tray.check()), same)
+    log.tell(what, expected, misfit(tray.check()), same)
 }
 
 // Trays.
-pub fn trays(rt: &HostRuntime, log: &mut Log) -> io::Result<()> {
+pub fn trays(log: &mut Log) -> io::Result<()> {
+    log.of = Subject::Tray;
     let mut words = [0u32; 3];
-    tray(rt, log, "limit 16", &mut words, 16, None)?;
-    tray(rt, log, "limit 15", &mut words, 15, Some(11))?;
-    tray(rt, log, "limit 65537", &mut words, 65_537, None)?;
-    tray(rt, log, "limit 65538", &mut words, 65_538, Some(11))?;
-    tray(rt, log, "no words", &mut words[..0], 16, Some(12))?;
-    tray(
-        rt,
-        log,
-        "no words and limit 15",
-        &mut words[..0],
-        15,
-        Some(11),
-    )
+    tray(log, "limit 16", &mut words, 16, None)?;
+    tray(log, "limit 15", &mut words, 15, Some(11))?;
+    tray(log, "limit 65537", &mut words, 65_537, None)?;
+    tray(log, "limit 65538", &mut words, 65_538, Some(11))?;
+    tray(log, "no words", &mut words[..0], 16, Some(12))?;
+    tray(log, "no words and limit 15", &mut words[..0], 15, Some(11))
 }
 
 // An image tray over these bytes.
-fn image(
-    rt: &HostRuntime,
-    log: &mut Log,
-    what: &str,
-    bytes: &mut [u8],
-    expected: Option<u32>,
-) -> io::Result<()> {
+fn image(log: &mut Log, what: &str, bytes: &mut [u8], expected: Option<u32>) -> io::Result<()> {
     let places = bytes.len().saturating_sub(4) / 2;
     let image = ImageTray::new(bytes);
     let shape = match expected {
@@ -75,39 +62,30 @@ fn image(
         Some(_) => (0, 0, 16),
     };
     let same = image.shape() == shape;
-    log.tell(
-        rt,
-        "image tray",
-        what,
-        expected,
-        misfit(image.check()),
-        same,
-    )
+    log.tell(what, expected, misfit(image.check()), same)
 }
 
 // Image trays.
-pub fn images(rt: &HostRuntime, log: &mut Log) -> io::Result<()> {
-    image(rt, log, "two places", &mut [2, 0, 1, 0, 2, 0, 7, 8], None)?;
-    image(rt, log, "no bytes", &mut [], Some(13))?;
-    image(rt, log, "one byte", &mut [1], Some(13))?;
-    image(rt, log, "no places", &mut [0, 0, 0, 0], Some(13))?;
+pub fn images(log: &mut Log) -> io::Result<()> {
+    log.of = Subject::ImageTray;
+    image(log, "two places", &mut [2, 0, 1, 0, 2, 0, 7, 8], None)?;
+    image(log, "no bytes", &mut [], Some(13))?;
+    image(log, "one byte", &mut [1], Some(13))?;
+    image(log, "no places", &mut [0, 0, 0, 0], Some(13))?;
     image(
-        rt,
         log,
         "counts that differ",
         &mut [2, 0, 1, 0, 1, 0, 7, 8],
         Some(13),
     )?;
     image(
-        rt,
         log,
         "a byte after the words",
         &mut [1, 0, 1, 1, 0, 7, 8],
         Some(13),
     )?;
-    image(rt, log, "a byte too few", &mut [1, 0, 1, 1, 0], Some(13))?;
+    image(log, "a byte too few", &mut [1, 0, 1, 1, 0], Some(13))?;
     image(
-        rt,
         log,
         "counts with the high byte first",
         &mut [0, 1, 1, 0, 1, 7],
@@ -116,103 +94,31 @@ pub fn images(rt: &HostRuntime, log: &mut Log) -> io::Result<()> {
 }
 
 // Plans.
-pub fn plans(rt: &HostRuntime, log: &mut Log) -> io::Result<()> {
-    let of = "plan of powers";
-    log.tell(
-        rt,
-        of,
-        "15 and 8",
-        None,
-        number(Powers::<Nibble>::new(15, 8)),
-        true,
-    )?;
-    log.tell(
-        rt,
-        of,
-        "0 and 1",
-        Some(14),
-        number(Powers::<Nibble>::new(0, 1)),
-        true,
-    )?;
-    log.tell(
-        rt,
-        of,
-        "16 and 1",
-        Some(14),
-        number(Powers::<Byte>::new(16, 1)),
-        true,
-    )?;
-    log.tell(
-        rt,
-        of,
-        "1 and 0",
-        Some(14),
-        number(Powers::<Count>::new(1, 0)),
-        true,
-    )?;
-    log.tell(
-        rt,
-        of,
-        "1 and 9",
-        Some(14),
-        number(Powers::<Count>::new(1, 9)),
-        true,
-    )?;
-    let of = "plan of groups";
-    log.tell(
-        rt,
-        of,
-        "3 and 3",
-        None,
-        number(Groups::<Nibble>::new(3, 3)),
-        true,
-    )?;
-    log.tell(
-        rt,
-        of,
-        "3 and 4",
-        Some(14),
-        number(Groups::<Nibble>::new(3, 4)),
-        true,
-    )?;
-    let of = "written plan";
+pub fn plans(log: &mut Log) -> io::Result<()> {
+    log.of = Subject::Powers;
+    log.done("15 and 8", number(Powers::<Nibble>::new(15, 8)))?;
+    log.refused("0 and 1", 14, number(Powers::<Nibble>::new(0, 1)))?;
+    log.refused("16 and 1", 14, number(Powers::<Byte>::new(16, 1)))?;
+    log.refused("1 and 0", 14, number(Powers::<Count>::new(1, 0)))?;
+    log.refused("1 and 9", 14, number(Powers::<Count>::new(1, 9)))?;
+    log.of = Subject::Groups;
+    log.done("3 and 3", number(Groups::<Nibble>::new(3, 3)))?;
+    log.refused("3 and 4", 14, number(Groups::<Nibble>::new(3, 4)))?;
+    log.of = Subject::Written;
     let table = [1u32; 31];
-    log.tell(
-        rt,
-        of,
-        "30 codes",
-        None,
-        number(Written::new(15, 2, &table[..30])),
-        true,
-    )?;
-    log.tell(
-        rt,
-        of,
-        "29 codes",
-        Some(15),
-        number(Written::new(15, 2, &table[..29])),
-        true,
-    )?;
-    log.tell(
-        rt,
-        of,
-        "31 codes",
-        Some(15),
-        number(Written::new(15, 2, &table)),
-        true,
-    )?;
-    log.tell(
-        rt,
-        of,
+    log.done("30 codes", number(Written::new(15, 2, &table[..30])))?;
+    log.refused("29 codes", 15, number(Written::new(15, 2, &table[..29])))?;
+    log.refused("31 codes", 15, number(Written::new(15, 2, &table)))?;
+    log.refused(
         "16 and 2, 29 codes",
-        Some(14),
+        14,
         number(Written::new(16, 2, &table[..29])),
-        true,
     )
 }
 
 // The events of a drill: it takes 16, and a 17th leaves it as it was.
-pub fn events(rt: &HostRuntime, log: &mut Log) -> io::Result<()> {
+pub fn events(log: &mut Log) -> io::Result<()> {
+    log.of = Subject::Drill;
     let mut words = [7u32];
     let mut drill = Drill::new(Tray::new(&mut words, 16));
     let mut taken = 0u32;
@@ -221,11 +127,11 @@ pub fn events(rt: &HostRuntime, log: &mut Log) -> io::Result<()> {
             taken = taken.saturating_add(1);
         }
     }
-    log.tell(rt, "drill", "16 events", None, None, taken == 16)?;
+    log.kept("16 events", taken == 16)?;
     let refused = match drill.add(0, 0) {
         Ok(()) => None,
         Err(overfull) => Some(overfull.number()),
     };
     let same = drill.read(0, 0) == Ok(7);
-    log.tell(rt, "drill", "a further event", Some(16), refused, same)
+    log.tell("a further event", Some(16), refused, same)
 }

@@ -1,6 +1,6 @@
 // One of every refusal of every call, on shelves of each kind.
 use crate::attempts::{number, refused, services_refused};
-use crate::log::Log;
+use crate::log::{Log, Subject};
 use array::{Array, Mending};
 use disk::Disk;
 use field::{Byte, Field, Nibble};
@@ -17,36 +17,24 @@ use trays::{BLANK, ImageTray, Tray};
 const WORDS: [u32; 2] = [7, BLANK];
 
 // The refused calls of a pair of trays, whose words are looked at too.
-fn on_trays(rt: &HostRuntime, log: &mut Log) -> io::Result<()> {
+fn on_trays(log: &mut Log) -> io::Result<()> {
     let (mut first, mut second) = (WORDS, WORDS);
     let mut pair = Pair::new(Tray::new(&mut first, 256), Tray::new(&mut second, 256));
-    services_refused(rt, log, "pair of trays", &mut pair)?;
+    log.of = Subject::TrayPair;
+    services_refused(log, &mut pair)?;
     let same = first == WORDS && second == WORDS;
-    log.tell(
-        rt,
-        "pair of trays",
-        "its words after that",
-        None,
-        None,
-        same,
-    )
+    log.kept("its words after that", same)
 }
 
 // The same of image trays.
-fn on_images(rt: &HostRuntime, log: &mut Log) -> io::Result<()> {
+fn on_images(log: &mut Log) -> io::Result<()> {
     let bytes = [2u8, 0, 1, 5, 2, 0, 7, 8];
     let (mut first, mut second) = (bytes, bytes);
     let mut pair = Pair::new(ImageTray::new(&mut first), ImageTray::new(&mut second));
-    services_refused(rt, log, "pair of image trays", &mut pair)?;
+    log.of = Subject::ImagePair;
+    services_refused(log, &mut pair)?;
     let same = first == bytes && second == bytes;
-    log.tell(
-        rt,
-        "pair of image trays",
-        "its bytes after that",
-        None,
-        None,
-        same,
-    )
+    log.kept("its bytes after that", same)
 }
 
 // A rack of two disks.
@@ -57,157 +45,60 @@ fn two_disks(heap: Global) -> Result<Rack<Disk>, std::alloc::AllocError> {
 }
 
 // The same of a rack, and of a drill over one.
-fn on_disks(rt: &HostRuntime, log: &mut Log) -> anyhow::Result<()> {
-    let mut rack = two_disks(rt.alloc())?;
-    services_refused(rt, log, "rack of disks", &mut rack)?;
-    let mut drill = Drill::new(two_disks(rt.alloc())?);
-    services_refused(rt, log, "drill", &mut drill)?;
+fn on_disks(log: &mut Log) -> anyhow::Result<()> {
+    let mut rack = two_disks(log.heap())?;
+    log.of = Subject::Rack;
+    services_refused(log, &mut rack)?;
+    let mut drill = Drill::new(two_disks(log.heap())?);
+    log.of = Subject::Drill;
+    services_refused(log, &mut drill)?;
     let _ = drill.add(0, 1);
-    let stopped = "drill with bay 1 stopped";
-    log.tell(rt, stopped, "read", Some(5), number(drill.read(1, 0)), true)?;
-    log.tell(
-        rt,
-        stopped,
-        "write",
-        Some(5),
-        number(drill.write(1, 0, 1)),
-        true,
-    )?;
-    log.tell(
-        rt,
-        stopped,
-        "patch",
-        Some(5),
-        number(drill.patch(1, 0, 1)),
-        true,
-    )?;
-    log.tell(
-        rt,
-        stopped,
-        "lay",
-        None,
-        number(drill.lay(1, &[1, 2])),
-        true,
-    )?;
-    log.tell(
-        rt,
-        stopped,
-        "exchange",
-        None,
-        number(drill.exchange(1)),
-        true,
-    )?;
+    log.of = Subject::StoppedDrill;
+    log.refused("read", 5, number(drill.read(1, 0)))?;
+    log.refused("write", 5, number(drill.write(1, 0, 1)))?;
+    log.refused("patch", 5, number(drill.patch(1, 0, 1)))?;
+    log.done("lay", number(drill.lay(1, &[1, 2])))?;
+    log.done("exchange", number(drill.exchange(1)))?;
     Ok(())
 }
 
 // An array of two data bays and one check bay over a drill over trays, with words at place 0 alone.
-fn on_array(rt: &HostRuntime, log: &mut Log, plan: Powers<Byte>) -> io::Result<()> {
+fn on_array(log: &mut Log, plan: Powers<Byte>) -> io::Result<()> {
     let (mut first, mut second, mut third) = ([BLANK; 2], [BLANK; 2], [BLANK; 2]);
     let trays = Pair::new(Tray::new(&mut second, 256), Tray::new(&mut third, 256));
     let below = Drill::new(Pair::new(Tray::new(&mut first, 256), trays));
     let mut array = Array::assemble(below, plan);
-    log.tell(
-        rt,
-        "array",
-        "lay",
-        None,
-        number(array.lay(0, &[7, 7])),
-        true,
-    )?;
-    refused(rt, log, "array", &mut array)?;
-    log.tell(
-        rt,
-        "array",
-        "exchange of no bay",
-        Some(1),
-        number(array.exchange(3)),
-        true,
-    )?;
-    mends(rt, log, &mut array)?;
-    sweeps(rt, log, &mut array)?;
+    log.of = Subject::Array;
+    log.done("lay", number(array.lay(0, &[7, 7])))?;
+    refused(log, &mut array)?;
+    log.refused("exchange of no bay", 1, number(array.exchange(3)))?;
+    mends(log, &mut array)?;
+    sweeps(log, &mut array)?;
     let (mut below, _) = array.take_apart();
     let _ = below.add(0, 2);
     let mut array = Array::assemble(below, plan);
-    let of = "array with bay 2 below stopped";
-    log.tell(
-        rt,
-        of,
-        "mend of it",
-        Some(6),
-        number(array.mend(2, 0)),
-        true,
-    )?;
-    log.tell(
-        rt,
-        of,
-        "mend of it at a blank place",
-        Some(5),
-        number(array.mend(2, 1)),
-        true,
-    )?;
-    log.tell(
-        rt,
-        of,
-        "mend of another",
-        None,
-        number(array.mend(1, 0)),
-        true,
-    )
+    log.of = Subject::StoppedArray;
+    log.refused("mend of it", 6, number(array.mend(2, 0)))?;
+    log.refused("mend of it at a blank place", 5, number(array.mend(2, 1)))?;
+    log.done("mend of another", number(array.mend(1, 0)))
 }
 
 // Mends of an array, which count the bays below.
-fn mends<S: Serviceable, P: Plan>(
-    rt: &HostRuntime,
-    log: &mut Log,
-    array: &mut Array<S, P>,
-) -> io::Result<()> {
-    let of = "array";
-    log.tell(
-        rt,
-        of,
-        "mend in no bay",
-        Some(1),
-        number(array.mend(3, 0)),
-        true,
-    )?;
-    log.tell(
-        rt,
-        of,
-        "mend in no bay and no place",
-        Some(1),
-        number(array.mend(3, 2)),
-        true,
-    )?;
-    log.tell(
-        rt,
-        of,
-        "mend in no place",
-        Some(2),
-        number(array.mend(2, 2)),
-        true,
-    )?;
-    log.tell(
-        rt,
-        of,
-        "mend at a blank place",
-        Some(5),
-        number(array.mend(2, 1)),
-        true,
-    )?;
+fn mends<S: Serviceable, P: Plan>(log: &mut Log, array: &mut Array<S, P>) -> io::Result<()> {
+    log.refused("mend in no bay", 1, number(array.mend(3, 0)))?;
+    log.refused("mend in no bay and no place", 1, number(array.mend(3, 2)))?;
+    log.refused("mend in no place", 2, number(array.mend(2, 2)))?;
+    log.refused("mend at a blank place", 5, number(array.mend(2, 1)))?;
     let whole = array.mend(2, 0);
     log.tell(
-        rt,
-        of,
         "mend of a whole cell",
         None,
         number(whole),
         whole == Ok(Mending::Whole),
     )?;
-    log.tell(rt, of, "exchange", None, number(array.exchange(2)), true)?;
+    log.done("exchange", number(array.exchange(2)))?;
     let patched = array.mend(2, 0);
     log.tell(
-        rt,
-        of,
         "mend of a blank one",
         None,
         number(patched),
@@ -217,7 +108,6 @@ fn mends<S: Serviceable, P: Plan>(
 
 // A sweep into bytes that hold 9 before, and those that it should leave.
 fn sweep<S: Serviceable, P: Plan, const N: usize>(
-    rt: &HostRuntime,
     log: &mut Log,
     array: &mut Array<S, P>,
     what: &str,
@@ -227,17 +117,12 @@ fn sweep<S: Serviceable, P: Plan, const N: usize>(
 ) -> io::Result<()> {
     let mut bytes = [9u8; N];
     let found = number(array.sweep(run.0, run.1, &mut bytes));
-    log.tell(rt, "array", what, expected, found, bytes == left)
+    log.tell(what, expected, found, bytes == left)
 }
 
-fn sweeps<S: Serviceable, P: Plan>(
-    rt: &HostRuntime,
-    log: &mut Log,
-    array: &mut Array<S, P>,
-) -> io::Result<()> {
-    sweep(rt, log, array, "sweep of no bay", (3, 0), Some(1), [9, 9])?;
+fn sweeps<S: Serviceable, P: Plan>(log: &mut Log, array: &mut Array<S, P>) -> io::Result<()> {
+    sweep(log, array, "sweep of no bay", (3, 0), Some(1), [9, 9])?;
     sweep(
-        rt,
         log,
         array,
         "sweep of no bay past the places",
@@ -245,17 +130,8 @@ fn sweeps<S: Serviceable, P: Plan>(
         Some(1),
         [9, 9],
     )?;
+    sweep(log, array, "sweep past the places", (0, 1), Some(2), [9, 9])?;
     sweep(
-        rt,
-        log,
-        array,
-        "sweep past the places",
-        (0, 1),
-        Some(2),
-        [9, 9],
-    )?;
-    sweep(
-        rt,
         log,
         array,
         "sweep of no place behind the last",
@@ -264,7 +140,6 @@ fn sweeps<S: Serviceable, P: Plan>(
         [],
     )?;
     sweep(
-        rt,
         log,
         array,
         "sweep of no place further on",
@@ -272,43 +147,28 @@ fn sweeps<S: Serviceable, P: Plan>(
         Some(2),
         [],
     )?;
-    sweep(rt, log, array, "sweep", (0, 0), None, [0, 5])
+    sweep(log, array, "sweep", (0, 0), None, [0, 5])
 }
 
 // An array that does not fit the shelf below it: it has no bays and no places.
-fn on_misfit(rt: &HostRuntime, log: &mut Log, plan: Powers<Byte>) -> io::Result<()> {
+fn on_misfit(log: &mut Log, plan: Powers<Byte>) -> io::Result<()> {
     let (mut first, mut second) = (WORDS, WORDS);
     let below = Pair::new(Tray::new(&mut first, 256), Tray::new(&mut second, 256));
     let mut array = Array::assemble(below, plan);
-    let of = "array over too few bays";
+    log.of = Subject::MisfitArray;
     let none = array.shape() == (0, 0, 256);
-    log.tell(rt, of, "its shape", None, None, none)?;
-    log.tell(rt, of, "read", Some(1), number(array.read(0, 0)), true)?;
-    log.tell(rt, of, "write", Some(1), number(array.write(0, 0, 1)), true)?;
-    log.tell(rt, of, "lay", Some(2), number(array.lay(0, &[1, 2])), true)?;
-    log.tell(rt, of, "mend", Some(1), number(array.mend(0, 0)), true)?;
-    log.tell(rt, of, "exchange", Some(1), number(array.exchange(0)), true)?;
-    log.tell(
-        rt,
-        of,
-        "sweep",
-        Some(1),
-        number(array.sweep(0, 0, &mut [])),
-        true,
-    )?;
-    log.tell(
-        rt,
-        of,
-        "its words after that",
-        None,
-        None,
-        first == WORDS && second == WORDS,
-    )
+    log.kept("its shape", none)?;
+    log.refused("read", 1, number(array.read(0, 0)))?;
+    log.refused("write", 1, number(array.write(0, 0, 1)))?;
+    log.refused("lay", 2, number(array.lay(0, &[1, 2])))?;
+    log.refused("mend", 1, number(array.mend(0, 0)))?;
+    log.refused("exchange", 1, number(array.exchange(0)))?;
+    log.refused("sweep", 1, number(array.sweep(0, 0, &mut [])))?;
+    log.kept("its words after that", first == WORDS && second == WORDS)
 }
 
 // A fetch on a tray of three places, of which the second is blank, into words and marks that hold 9 before, and what they should hold.
 fn fetch_from<const N: usize, const M: usize>(
-    rt: &HostRuntime,
     log: &mut Log,
     what: &str,
     run: (usize, usize),
@@ -321,53 +181,25 @@ fn fetch_from<const N: usize, const M: usize>(
     let answer = fetch(&mut tray, run.0, run.1, &mut words, &mut marks);
     let count = answer.unwrap_or(0) == expected.1;
     let same = count && words == left.0 && marks == left.1 && cells == [4, BLANK, 6];
-    log.tell(rt, "fetch", what, expected.0, number(answer), same)
+    log.tell(what, expected.0, number(answer), same)
 }
 
-fn fetches(rt: &HostRuntime, log: &mut Log) -> io::Result<()> {
+fn fetches(log: &mut Log) -> io::Result<()> {
+    log.of = Subject::Fetch;
+    fetch_from(log, "all places", (0, 0), (None, 2), ([4, 9, 6], [1, 0, 1]))?;
+    fetch_from(log, "no place behind the last", (0, 3), (None, 0), ([], []))?;
+    fetch_from(log, "no place further on", (0, 4), (Some(2), 0), ([], []))?;
+    fetch_from(log, "of no bay", (1, 0), (Some(1), 0), ([9], [9]))?;
     fetch_from(
-        rt,
-        log,
-        "all places",
-        (0, 0),
-        (None, 2),
-        ([4, 9, 6], [1, 0, 1]),
-    )?;
-    fetch_from(
-        rt,
-        log,
-        "no place behind the last",
-        (0, 3),
-        (None, 0),
-        ([], []),
-    )?;
-    fetch_from(
-        rt,
-        log,
-        "no place further on",
-        (0, 4),
-        (Some(2), 0),
-        ([], []),
-    )?;
-    fetch_from(rt, log, "of no bay", (1, 0), (Some(1), 0), ([9], [9]))?;
-    fetch_from(
-        rt,
         log,
         "of no bay, two lengths, too far",
         (1, 4),
         (Some(1), 0),
         ([9], [9, 9]),
     )?;
-    fetch_from(rt, log, "two lengths", (0, 0), (Some(4), 0), ([9], [9, 9]))?;
-    fetch_from(
-        rt,
-        log,
-        "two lengths, too far",
-        (0, 4),
-        (Some(4), 0),
-        ([9], []),
-    )?;
-    fetch_from(rt, log, "too far", (0, 2), (Some(2), 0), ([9, 9], [9, 9]))
+    fetch_from(log, "two lengths", (0, 0), (Some(4), 0), ([9], [9, 9]))?;
+    fetch_from(log, "two lengths, too far", (0, 4), (Some(4), 0), ([9], []))?;
+    fetch_from(log, "too far", (0, 2), (Some(2), 0), ([9, 9], [9, 9]))
 }
 
 const NO_CELL: LostCell = LostCell { bay: 9, place: 9 };
@@ -376,7 +208,6 @@ const LOST_CELL: LostCell = LostCell { bay: 0, place: 1 };
 
 // A survey of such a tray, into a list that holds no cell before, and what it should hold.
 fn survey_of<const N: usize>(
-    rt: &HostRuntime,
     log: &mut Log,
     what: &str,
     run: (usize, usize),
@@ -388,13 +219,13 @@ fn survey_of<const N: usize>(
     let mut list = [NO_CELL; N];
     let answer = survey(&mut tray, run.0, run.1, &mut list);
     let same = answer.unwrap_or(0) == expected.1 && list == left;
-    log.tell(rt, "survey", what, expected.0, number(answer), same)
+    log.tell(what, expected.0, number(answer), same)
 }
 
-fn surveys(rt: &HostRuntime, log: &mut Log) -> io::Result<()> {
+fn surveys(log: &mut Log) -> io::Result<()> {
+    log.of = Subject::Survey;
     let next = LostCell { bay: 0, place: 2 };
     survey_of(
-        rt,
         log,
         "all places",
         (0, 3),
@@ -402,42 +233,27 @@ fn surveys(rt: &HostRuntime, log: &mut Log) -> io::Result<()> {
         [LOST_CELL, next, NO_CELL],
     )?;
     survey_of(
-        rt,
         log,
         "no place behind the last",
         (3, 0),
         (None, 0),
         [NO_CELL],
     )?;
+    survey_of(log, "no place further on", (4, 0), (Some(2), 0), [NO_CELL])?;
+    survey_of(log, "too far", (1, 3), (Some(2), 0), [NO_CELL])?;
     survey_of(
-        rt,
-        log,
-        "no place further on",
-        (4, 0),
-        (Some(2), 0),
-        [NO_CELL],
-    )?;
-    survey_of(rt, log, "too far", (1, 3), (Some(2), 0), [NO_CELL])?;
-    survey_of(
-        rt,
         log,
         "too far, with too short a list",
         (1, 3),
         (Some(2), 0),
         [],
     )?;
-    survey_of(
-        rt,
-        log,
-        "too short a list",
-        (0, 3),
-        (Some(7), 0),
-        [LOST_CELL],
-    )
+    survey_of(log, "too short a list", (0, 3), (Some(7), 0), [LOST_CELL])
 }
 
 // A run of calls without room for its answers.
-fn without_room(rt: &HostRuntime, log: &mut Log) -> io::Result<()> {
+fn without_room(log: &mut Log) -> io::Result<()> {
+    log.of = Subject::Run;
     let mut words = WORDS;
     let mut tray = Tray::new(&mut words, Nibble::size());
     let kept: Result<(), Refusal> = keep(
@@ -450,8 +266,6 @@ fn without_room(rt: &HostRuntime, log: &mut Log) -> io::Result<()> {
         &mut [],
     );
     log.tell(
-        rt,
-        "run",
         "without room for its answers",
         Some(4),
         number(kept),
@@ -460,16 +274,16 @@ fn without_room(rt: &HostRuntime, log: &mut Log) -> io::Result<()> {
 }
 
 // All of these.
-pub fn show(rt: &HostRuntime, log: &mut Log) -> anyhow::Result<()> {
-    on_trays(rt, log)?;
-    on_images(rt, log)?;
-    on_disks(rt, log)?;
+pub fn show(log: &mut Log) -> anyhow::Result<()> {
+    on_trays(log)?;
+    on_images(log)?;
+    on_disks(log)?;
     if let Ok(plan) = Powers::<Byte>::new(2, 1) {
-        on_array(rt, log, plan)?;
-        on_misfit(rt, log, plan)?;
+        on_array(log, plan)?;
+        on_misfit(log, plan)?;
     }
-    fetches(rt, log)?;
-    surveys(rt, log)?;
-    without_room(rt, log)?;
+    fetches(log)?;
+    surveys(log)?;
+    without_room(log)?;
     Ok(())
 }

@@ -16,8 +16,8 @@ const UNTOUCHED: u8 = 99;
 // One call of service. Where the array is the one on top, its book says what a mend puts in a cell.
 pub fn serve<S: Serviceable, F: Known>(flat: &mut Flat<S, F>, trial: &mut Trial, on_top: bool) {
     match trial.generator.below(10) {
-        0..=4 => mend(flat, trial, on_top),
-        5..=7 => sweep(flat, trial),
+        0..=5 => mend(flat, trial, on_top),
+        6..=7 => sweep(flat, trial),
         _ => exchange(flat, trial),
     }
 }
