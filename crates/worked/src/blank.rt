@@ -2,7 +2,7 @@ ghost use Rattle.shelf.specs.Table.{AllBlank};
 ghost use Rattle.std.specs.Prelude.{◌≤◌};
 ghost use Rattle.shelf.specs.Bounds.{most_limit};
 ghost use Rattle.trays.specs.Words.{tray_table};
-ghost use Rattle.worked.specs.New.{IsNew};
+ghost use Rattle.worked.specs.New.{BlankOver, IsNew, MadeOf};
 
 use array::Array;
 use field::Field;
@@ -16,7 +16,8 @@ pub type Three<'a> = Pair<Tray<'a>, Pair<Tray<'a>, Tray<'a>>>;
 
 // A blank tray over these words.
 fn blank_tray<'a>(words: &'a mut [u32], limit: u32) -> Tray<'a>
-    ensures { limit ≤ most_limit → AllBlank (tray_table result) }
+    ensures blank { limit ≤ most_limit → AllBlank (tray_table result) }
+    ensures over { BlankOver limit words.entry result }
 {
     words.fill(BLANK);
     Tray::new(words, limit)
@@ -29,7 +30,8 @@ pub fn new_array<'a, P: Plan>(
     third: &'a mut [u32],
     plan: P,
 ) -> Array<Three<'a>, P>
-    ensures { IsNew ⟦<Three<'static> as Shelf>⟧.table ⟦<Three<'static> as Shelf>⟧.sound P.F.Field.arithmetic P.Plan.coefficients result }
+    ensures new { IsNew ⟦<Three<'static> as Shelf>⟧.table ⟦<Three<'static> as Shelf>⟧.sound P.F.Field.arithmetic P.Plan.coefficients result }
+    ensures parts { MadeOf P.F.Field.arithmetic first.entry second.entry third.entry plan result }
 {
     let limit = P::F::size();
     let first = blank_tray(first, limit);
