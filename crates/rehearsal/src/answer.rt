@@ -51,11 +51,11 @@ pub enum Answer {
         place: u32,
         word: u32,
     },
-    // The words from the first place on, none where a place is lost, and those of the book.
+    // What was fetched from the first place on, and the words of the book.
     Fetched {
         bay: u32,
         first: u32,
-        words: Vec<Option<u32>>,
+        fetched: Fetch,
         book: Vec<Option<u32>>,
     },
     // The lost cells of a run of places.
@@ -79,27 +79,62 @@ impl fmt::Display for BookWord {
     }
 }
 
-// The words of places with blanks between them, and this name where there is none.
+// The two buffers that a fetch fills, kept as they are: a list of options beside them would have to be made after the reads, when want
+// of memory can't refuse the line any more, and takes more memory than both. So many marks are 1.
+#[derive(Drop)]
+pub struct Fetch {
+    pub words: Vec<u32>,
+    pub marks: Vec<u8>,
+    pub found: usize,
+}
+
+// One of several places: its word, or this name where there is none, with a blank before it unless it is the first. Std's join
+// allocates, which printing can't.
 #[derive(Clone, Copy)]
-struct Places<'a> {
-    words: &'a [Option<u32>],
+struct Place<'a> {
+    index: usize,
+    word: Option<u32>,
     none: &'a str,
 }
 
-impl fmt::Display for Places<'_> {
+impl fmt::Display for Place<'_> {
+    fn fmt<W: fmt::Write>(&self, f: &mut fmt::Formatter<W>) -> fmt::Result {
+        if self.index > 0 {
+            f.write_str(" ")?;
+        }
+        match self.word {
+            Some(word) => write!(f, "{word}"),
+            None => f.write_str(self.none),
+        }
+    }
+}
+
+impl fmt::Display for Fetch {
     fn fmt<W: fmt::Write>(&self, f: &mut fmt::Formatter<W>) -> fmt::Result {
         if self.words.is_empty() {
             return write!(f, "no places");
         }
-        // With a blank before all but the first: std's join allocates, which printing can't.
-        for (i, place) in self.words.iter().enumerate() {
-            if i > 0 {
-                write!(f, " ")?;
-            }
-            match place {
-                Some(word) => write!(f, "{word}")?,
-                None => f.write_str(self.none)?,
-            }
+        for (index, (word, mark)) in self.words.iter().zip(self.marks.iter()).enumerate() {
+            let word = if *mark == 1 { Some(*word) } else { None };
+            let none = "lost";
+            write!(f, "{}", Place { index, word, none })?;
+        }
+        Ok(())
+    }
+}
+
+// The words that the book has for places.
+#[derive(Clone, Copy)]
+struct BookWords<'a>(&'a [Option<u32>]);
+
+impl fmt::Display for BookWords<'_> {
+    fn fmt<W: fmt::Write>(&self, f: &mut fmt::Formatter<W>) -> fmt::Result {
+        if self.0.is_empty() {
+            return write!(f, "no places");
+        }
+        for (index, word) in self.0.iter().copied().enumerate() {
+            let none = "none";
+            write!(f, "{}", Place { index, word, none })?;
         }
         Ok(())
     }
@@ -196,21 +231,14 @@ impl fmt::Display for Answer {
             Answer::Fetched {
                 bay,
                 first,
-                words,
+                fetched,
                 book,
             } => {
-                let found = words.iter().filter(|word| word.is_some()).count();
-                let places = Places {
-                    words,
-                    none: "lost",
-                };
-                let book = Places {
-                    words: book,
-                    none: "none",
-                };
+                let found = fetched.found;
+                let book = BookWords(book);
                 write!(
                     f,
-                    "bay {bay} from place {first}: {places}, words {found}; book {book}"
+                    "bay {bay} from place {first}: {fetched}, words {found}; book {book}"
                 )
             }
             Answer::Surveyed { run, lost } => write!(f, "{run}: {}", LostCells(lost)),

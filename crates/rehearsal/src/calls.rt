@@ -1,6 +1,6 @@
 // Carries out the lines of a shelf in memory.
 // Numbers of a line have 32 bits, and those of a shelf are usize. Rust has no From between them, so they are cast, which loses nothing.
-use crate::answer::{Answer, BookWord, Run};
+use crate::answer::{Answer, BookWord, Fetch, Run};
 use crate::fault::Fault;
 use crate::stage::Stage;
 use array::Mending;
@@ -136,7 +136,8 @@ fn sweep<S: Stage>(
     })
 }
 
-// Fetches a run of places. One that is longer than the shelf is refused, so it needs no longer buffers.
+// Fetches a run of places. One that is longer than the shelf is refused, so it needs no longer buffers. All memory is asked for before
+// the first read, so that a line refused for want of it has changed nothing.
 fn fetch_run<S: Shelf>(
     heap: Global,
     shelf: &mut S,
@@ -149,19 +150,19 @@ fn fetch_run<S: Shelf>(
     let room = (count as usize).min(places + 1);
     let mut words = vec![in heap; 0u32; room]?;
     let mut marks = vec![in heap; 0u8; room]?;
-    fetch(shelf, bay as usize, first as usize, &mut words, &mut marks)?;
-    let words = words
-        .iter()
-        .zip(marks.iter())
-        .map(|(word, mark)| if *mark == 1 { Some(*word) } else { None })
-        .collect(heap)?;
     let book = (0..room)
         .map(|i| book.word(bay as usize, (first as usize).saturating_add(i)))
         .collect(heap)?;
+    let found = fetch(shelf, bay as usize, first as usize, &mut words, &mut marks)?;
+    let fetched = Fetch {
+        words,
+        marks,
+        found,
+    };
     Ok(Answer::Fetched {
         bay,
         first,
-        words,
+        fetched,
         book,
     })
 }

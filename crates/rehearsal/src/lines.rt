@@ -9,13 +9,13 @@ use script::Script;
 use shelf::Shape;
 use std::io::BufRead;
 
-// Carries out a call on a shelf, which comes back.
-fn take_call<S: Stage>(
-    rt: &HostRuntime,
-    mut shelf: S,
-    book: &mut Book,
-    call: ShelfCall,
-) -> (S, Result<Answer, Fault>) {
+// Whether a shelf is taken apart for a call, and so has to be moved. It is large: any other call is carried out where it stands.
+fn is_apart(call: &ShelfCall) -> bool {
+    matches!(call, ShelfCall::Stop { .. } | ShelfCall::Below { .. })
+}
+
+// Carries out a call for which a shelf is taken apart. The shelf comes back.
+fn take_apart<S: Stage>(shelf: S, call: ShelfCall) -> (S, Result<Answer, Fault>) {
     match call {
         ShelfCall::Stop { call, bay } => {
             let (shelf, planned) = shelf.stop(call, bay as usize);
@@ -31,35 +31,49 @@ fn take_call<S: Stage>(
                 Err(fault) => (shelf, Err(fault)),
             }
         }
-        call => {
-            let answer = carry_out(rt.alloc(), &mut shelf, book, call);
-            (shelf, answer)
-        }
+        _ => (shelf, Err(Fault::NoSuchCall)),
     }
 }
 
-// Reads one line, and carries it out on a shelf, which comes back.
-fn take_line<S: Stage + Drop>(
-    rt: &HostRuntime,
-    shelf: S,
-    book: &mut Book,
-    line: &[u8],
-) -> (S, Result<Option<Answer>, Fault>) {
-    match read_call(rt.alloc(), line) {
-        Err(fault) => (shelf, Err(Fault::from(fault))),
-        Ok(None) => (shelf, Ok(None)),
-        Ok(Some(call)) => {
-            let (shelf, answer) = take_call(rt, shelf, book, call);
-            (shelf, answer.map(Some))
-        }
-    }
-}
-
-// Takes the lines up to the end of a shelf, or of the script. It is called by its name, and what it stands on is said.
-pub(crate) fn take_lines<R: BufRead, S: Stage + Drop>(
+// Takes the lines up to the end of a shelf, or of the script, with its book.
+fn take_calls<R: BufRead, S: Stage + Drop>(
     rt: &HostRuntime,
     script: &mut Script<R>,
     mut shelf: S,
+    mut book: Book,
+) -> anyhow::Result<()> {
+    // No index: a reader may never end, and so its loop is bounded.
+    for _ in 0..u64::MAX {
+        if !script.advance()? {
+            break;
+        }
+        let said = match read_call(rt.alloc(), &script.line) {
+            Ok(None) => continue,
+            Ok(Some(call)) => {
+                if is_apart(&call) {
+                    let (next, answer) = take_apart(shelf, call);
+                    shelf = next;
+                    answer.map(Some)
+                } else {
+                    carry_out(rt.alloc(), &mut shelf, &mut book, call).map(Some)
+                }
+            }
+            Err(fault) => Err(Fault::from(fault)),
+        };
+        match said {
+            Ok(Some(Answer::Ended)) => break,
+            said => script.tell(rt, said)?,
+        }
+    }
+    Ok(())
+}
+
+// Takes the lines of a shelf. It is called by its name, and what it stands on is said. Where there is no memory for its book, the line
+// that begins it is refused.
+pub(crate) fn take_lines<R: BufRead, S: Stage + Drop>(
+    rt: &HostRuntime,
+    script: &mut Script<R>,
+    shelf: S,
     name: &str,
     stands_on: &str,
 ) -> anyhow::Result<()> {
@@ -68,20 +82,13 @@ pub(crate) fn take_lines<R: BufRead, S: Stage + Drop>(
         places,
         limit,
     } = Shape::from(shelf.shape());
-    println!(rt; "{name}: bays {bays}, places {places}, limit {limit}; {stands_on}")?;
-    let mut book = Book::new(rt.alloc(), bays, places)?;
-    // No index: a reader may never end, and so its loop is bounded.
-    for _ in 0..u64::MAX {
-        if !script.advance()? {
-            break;
+    match Book::new(rt.alloc(), bays, places) {
+        Ok(book) => {
+            println!(rt; "{name}: bays {bays}, places {places}, limit {limit}; {stands_on}")?;
+            take_calls(rt, script, shelf, book)?;
+            println!(rt; "{name} ended")?;
+            Ok(())
         }
-        let (next, said) = take_line(rt, shelf, &mut book, &script.line);
-        shelf = next;
-        match said {
-            Ok(Some(Answer::Ended)) => break,
-            said => script.tell(rt, said)?,
-        }
+        Err(none) => script.refuse(rt, Fault::from(none)),
     }
-    println!(rt; "{name} ended")?;
-    Ok(())
 }

@@ -49,8 +49,10 @@ fn on_array<R: BufRead, F: Field>(
 ) -> anyhow::Result<()> {
     let bays = below.shelves.len();
     let shelf = Array::assemble(Drill::new(below), plan);
-    let stands_on = format!(in rt.alloc(); "a drill over {bays} disks")?;
-    take_lines(rt, script, shelf, "array", &stands_on)
+    match format!(in rt.alloc(); "a drill over {bays} disks") {
+        Ok(stands_on) => take_lines(rt, script, shelf, "array", &stands_on),
+        Err(none) => script.refuse(rt, Fault::from(none)),
+    }
 }
 
 // An array over a pair of arrays, each over a drill over disks.
