@@ -136,8 +136,8 @@ fn sweep<S: Stage>(
     })
 }
 
-// Fetches a run of places. One that is longer than the shelf is refused, so it needs no longer buffers. All memory is asked for before
-// the first read, so that a line refused for want of it has changed nothing.
+// Fetches a run of places. One that is longer than the shelf is refused, so it needs no longer buffers. The book's words are looked up
+// once nothing refuses the run, and before the first read, so that a line refused for want of memory has changed nothing.
 fn fetch_run<S: Shelf>(
     heap: Global,
     shelf: &mut S,
@@ -146,10 +146,12 @@ fn fetch_run<S: Shelf>(
     first: u32,
     count: u32,
 ) -> Result<Answer, Fault> {
-    let places = Shape::from(shelf.shape()).places;
-    let room = (count as usize).min(places + 1);
+    let shape = Shape::from(shelf.shape());
+    let room = (count as usize).min(shape.places + 1);
     let mut words = vec![in heap; 0u32; room]?;
     let mut marks = vec![in heap; 0u8; room]?;
+    shape.check_bay(bay as usize)?;
+    shape.check_run(first as usize, room)?;
     let book = (0..room)
         .map(|i| book.word(bay as usize, (first as usize).saturating_add(i)))
         .collect(heap)?;
